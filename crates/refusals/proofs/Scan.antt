@@ -1,0 +1,117 @@
+-- A search over the numbers below a bound, turn by turn: what a loop that counts up has shown, and what it shows next.
+-- Assumes nothing.
+use mathlib.Core.Path.{_≡_, refl, sym, ap, _∙_, subst}
+use mathlib.Core.Logic.{⊎-elim}
+use mathlib.Core.Bool.{Bool, true, false, cond, _||_}
+use Prim.Native.Nat.{ℕ, zero, suc, _+_, _<_, _≤_, max}
+use native.Mathlib.Nat.{le-of-suc-le-suc, eq-or-lt-of-le, not-suc-le-zero, le-max-left, le-max-right, max-eq-left, max-eq-right}
+use native.Mathlib.Numerals.{add-one}
+use native.Mathlib.Omega.{arith}
+use lib.Dec.{eqb}
+use borrow.Author.Tests.{eq-eqb, ne-eqb}
+use Rattle.refusals.specs.Search.{firstBelow, anyBelow, countBelow, greatestBelow}
+
+module _ (f : ℕ → Bool) where
+  pub any-more : (i : ℕ) → anyBelow f i ≡ false → f i ≡ false → anyBelow f (i + 1) ≡ false
+  unfolding anyBelow
+  any-more i before here = rw (add-one, here, before)
+
+  pub any-hit : (i n : ℕ) → i < n → f i ≡ true → anyBelow f n ≡ true
+  unfolding anyBelow
+  any-hit i zero low here = absurd (not-suc-le-zero low)
+  any-hit i (suc n) low here =
+      ⊎-elim
+      (λ e. last (subst (λ (m : ℕ). f m ≡ true) e here))
+      (λ lt. or-true (f n) (anyBelow f n) (any-hit i n lt here))
+      (eq-or-lt-of-le (le-of-suc-le-suc low))
+    where
+      last : f n ≡ true → (f n || anyBelow f n) ≡ true
+      last h = rw h
+
+      or-true : (b t : Bool) → t ≡ true → (b || t) ≡ true
+      or-true true t e = refl
+      or-true false t e = e
+
+  -- what no number below n does, none of them does
+  pub any-none : (i n : ℕ) → i < n → anyBelow f n ≡ false → f i ≡ false
+  any-none i n low none = decide (f i) refl
+    where
+      decide : (b : Bool) → f i ≡ b → f i ≡ false
+      decide false e = e
+      decide true e = let z : true ≡ false = sym (any-hit i n low e) ∙ none in cc
+
+  pub first-more : (i : ℕ) → firstBelow f i ≡ i → f i ≡ false → firstBelow f (i + 1) ≡ i + 1
+  unfolding firstBelow
+  first-more i before here = rw (add-one, eq-eqb (firstBelow f i) i before, here)
+
+  pub first-hit : (i n : ℕ) → i < n → firstBelow f i ≡ i → f i ≡ true → firstBelow f n ≡ i
+  unfolding firstBelow
+  first-hit i zero low before here = absurd (not-suc-le-zero low)
+  first-hit i (suc n) low before here =
+      ⊎-elim (λ e. last e) (λ lt. later lt (first-hit i n lt before here)) (eq-or-lt-of-le (le-of-suc-le-suc low))
+    where
+      last : i ≡ n → firstBelow f (suc n) ≡ i
+      last e = subst (λ (m : ℕ). firstBelow f (suc m) ≡ i) e (rw (eq-eqb (firstBelow f i) i before, here))
+
+      later : i < n → firstBelow f n ≡ i → firstBelow f (suc n) ≡ i
+      later lt e = rw (ne-eqb (firstBelow f n) n (λ z. omega arith)) e
+
+  pub first-le : (n : ℕ) → firstBelow f n ≤ n
+  unfolding firstBelow
+  first-le zero = omega arith
+  first-le (suc n) = step (eqb (firstBelow f n) n) (f n) (first-le n)
+    where
+      step : (a b : Bool) → firstBelow f n ≤ n → cond a (cond b n (suc n)) (firstBelow f n) ≤ suc n
+      step true true h = omega arith
+      step true false h = omega arith
+      step false b h = omega arith
+
+  pub first-at-most : (i n : ℕ) → i < n → f i ≡ true → firstBelow f n ≤ i
+  unfolding firstBelow
+  first-at-most i zero low here = absurd (not-suc-le-zero low)
+  first-at-most i (suc n) low here =
+      ⊎-elim
+      (λ e. last (eqb (firstBelow f n) n) (subst (λ (m : ℕ). f m ≡ true) e here) e)
+      (λ lt. later lt (first-at-most i n lt here))
+      (eq-or-lt-of-le (le-of-suc-le-suc low))
+    where
+      last : (b : Bool) → f n ≡ true → i ≡ n → cond b (cond (f n) n (suc n)) (firstBelow f n) ≤ i
+      last true h e = rw h (omega arith)
+      last false h e = omega (arith, first-le n)
+
+      later : i < n → firstBelow f n ≤ i → firstBelow f (suc n) ≤ i
+      later lt h = rw (ne-eqb (firstBelow f n) n (λ (z : firstBelow f n ≡ n). omega arith)) h
+
+  -- where the search finds nothing below n, no number below n is one
+  pub first-none : (i n : ℕ) → i < n → firstBelow f n ≡ n → f i ≡ false
+  first-none i n low none = decide (f i) refl
+    where
+      decide : (b : Bool) → f i ≡ b → f i ≡ false
+      decide false e = e
+      decide true e = absurd (omega (arith, first-at-most i n low e))
+
+  pub count-more : (i : ℕ) → f i ≡ true → countBelow f (i + 1) ≡ countBelow f i + 1
+  unfolding countBelow
+  count-more i here = rw (add-one i, here, add-one)
+
+  pub count-same : (i : ℕ) → f i ≡ false → countBelow f (i + 1) ≡ countBelow f i
+  unfolding countBelow
+  count-same i here = rw (add-one i, here)
+
+module _ (f : ℕ → ℕ) where
+  pub greatest-more : (i : ℕ) → greatestBelow f i ≤ f i → greatestBelow f (i + 1) ≡ f i
+  unfolding greatestBelow
+  greatest-more i h = rw (add-one i, max-eq-left h)
+
+  pub greatest-same : (i : ℕ) → f i ≤ greatestBelow f i → greatestBelow f (i + 1) ≡ greatestBelow f i
+  unfolding greatestBelow
+  greatest-same i h = rw (add-one i, max-eq-right h)
+
+  pub greatest-at : (i n : ℕ) → i < n → f i ≤ greatestBelow f n
+  unfolding greatestBelow
+  greatest-at i zero low = absurd (not-suc-le-zero low)
+  greatest-at i (suc n) low =
+      ⊎-elim
+      (λ e. subst (λ (m : ℕ). f m ≤ max (f n) (greatestBelow f n)) (sym e) (le-max-left (f n) (greatestBelow f n)))
+      (λ lt. omega (arith, greatest-at i n lt, le-max-right (f n) (greatestBelow f n)))
+      (eq-or-lt-of-le (le-of-suc-le-suc low))

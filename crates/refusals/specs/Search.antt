@@ -1,0 +1,31 @@
+-- Searches over the numbers below a bound: the lines of a file, the parts, the resources.
+-- Assumes nothing.
+use mathlib.Core.Bool.{Bool, true, false, cond, _||_}
+use mathlib.Core.List.{List, [], _∷_, _++_}
+use Prim.Native.Nat.{ℕ, zero, suc, _+_, max}
+use lib.Dec.{eqb}
+
+-- the first number below n at which f holds, or n
+unfoldable pub firstBelow : (ℕ → Bool) → ℕ → ℕ
+firstBelow f zero = zero
+firstBelow f (suc n) = cond (eqb (firstBelow f n) n) (cond (f n) n (suc n)) (firstBelow f n)
+
+-- whether f holds at some number below n
+unfoldable pub anyBelow : (ℕ → Bool) → ℕ → Bool
+anyBelow f zero = false
+anyBelow f (suc n) = f n || anyBelow f n
+
+-- at how many numbers below n f holds
+unfoldable pub countBelow : (ℕ → Bool) → ℕ → ℕ
+countBelow f zero = zero
+countBelow f (suc n) = cond (f n) (suc (countBelow f n)) (countBelow f n)
+
+-- the greatest of f's values below n, or 0
+unfoldable pub greatestBelow : (ℕ → ℕ) → ℕ → ℕ
+greatestBelow f zero = zero
+greatestBelow f (suc n) = max (f n) (greatestBelow f n)
+
+-- f's values below n, in order
+unfoldable pub tabulate : ℕ → (ℕ → ℕ) → List ℕ
+tabulate zero f = []
+tabulate (suc n) f = tabulate n f ++ (f n ∷ [])

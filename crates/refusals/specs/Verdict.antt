@@ -1,0 +1,26 @@
+-- The verdicts of rules, tried one after another. Assumes nothing.
+use mathlib.Core.Bool.{Bool, cond}
+use Prim.Native.Nat.{ℕ, _+_}
+use lib.Dec.{ltb}
+use Rattle.refusals.specs.declared.Refusal.{Refusal}
+use Rattle.refusals.specs.declared.Verdict.{Verdict}
+use Rattle.refusals.specs.declared.Verdict.the-variants.{Accepted, Refused}
+use Rattle.refusals.specs.Search.{firstBelow}
+
+-- "Each of the two readers tries a rule over the whole file before the next rule."
+unfoldable pub before : Verdict → Verdict → Verdict
+before Accepted next = next
+before (Refused refusal line) next = Refused refusal line
+
+-- "A file refusal carries the first breaking line (names line 1, so value line n is n+2)":
+-- the verdict of a rule whose first breaking line is `first`, of `count` lines
+unfoldable pub lineVerdict : Refusal → ℕ → ℕ → Verdict
+lineVerdict refusal first count = cond (ltb first count) (Refused refusal (first + 2)) Accepted
+
+-- the verdict of a rule that the lines at which `breaks` holds break
+unfoldable pub firstLine : Refusal → (ℕ → Bool) → ℕ → Verdict
+firstLine refusal breaks count = lineVerdict refusal (firstBelow breaks count) count
+
+-- "or 0 in rules 3 and 5": the verdict of a rule that names no line
+unfoldable pub noLine : Refusal → Bool → Verdict
+noLine refusal breaks = cond breaks (Refused refusal 0) Accepted
