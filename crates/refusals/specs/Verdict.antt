@@ -1,8 +1,9 @@
 -- The verdicts of rules, tried one after another. Assumes nothing.
-use mathlib.Core.Bool.{Bool, cond}
+use mathlib.Core.Bool.{Bool, cond, _||_}
 use Prim.Native.Nat.{ℕ, _+_}
-use lib.Dec.{ltb}
+use lib.Dec.{eqb, ltb}
 use Rattle.refusals.specs.declared.Refusal.{Refusal}
+use Rattle.refusals.specs.declared.Refusal.the-variants.{LineCount}
 use Rattle.refusals.specs.declared.Verdict.{Verdict}
 use Rattle.refusals.specs.declared.Verdict.the-variants.{Accepted, Refused}
 use Rattle.refusals.specs.Search.{firstBelow}
@@ -24,3 +25,7 @@ firstLine refusal breaks count = lineVerdict refusal (firstBelow breaks count) c
 -- "or 0 in rules 3 and 5": the verdict of a rule that names no line
 unfoldable pub noLine : Refusal → Bool → Verdict
 noLine refusal breaks = cond breaks (Refused refusal 0) Accepted
+
+-- "3. There are no value lines, or over 64."
+unfoldable pub rule3 : ℕ → Verdict
+rule3 count = noLine LineCount (eqb count 0 || ltb 64 count)

@@ -2,7 +2,7 @@
 ghost use mathlib.Core.Path.{_≡_};
 ghost use Prim.Native.Nat.{_≤_};
 ghost use Rattle.refusals.specs.Refusal.{numberOf};
-ghost use Rattle.refusals.specs.Verdict.{lineVerdict};
+ghost use Rattle.refusals.specs.Verdict.{lineVerdict, rule3};
 
 // One case for each rule, in checking order.
 pub enum Refusal {
@@ -70,4 +70,17 @@ pub fn at_line(refusal: Refusal, first: usize, count: usize) -> Verdict
     } else {
         Verdict::Accepted
     }
+}
+
+// Rule 3: there are no lines, or over 64.
+pub fn check_count(count: usize) -> Verdict
+    ensures { λ r. ⌜ r ≡ rule3 count ⌝ }
+{
+    if count == 0 {
+        return Verdict::Refused(Refusal::LineCount, 0);
+    }
+    if 64 < count {
+        return Verdict::Refused(Refusal::LineCount, 0);
+    }
+    Verdict::Accepted
 }
