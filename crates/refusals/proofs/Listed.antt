@@ -1,14 +1,14 @@
 -- The list of a function's values below a bound, and a list that is filled with them from the front.
 -- Assumes nothing.
-use mathlib.Core.Path.{_≡_, refl, sym, ap, _∙_, subst}
+use mathlib.Core.Path.{_≡_, refl, sym, _∙_}
 use mathlib.Core.Logic.{⊎-elim}
 use mathlib.Core.List.{List, [], _∷_, _++_, append-assoc}
-use Prim.Native.Nat.{ℕ, zero, suc, _+_, _<_, _≤_}
+use Prim.Native.Nat.{ℕ, zero, suc, _+_, _<_}
 use native.Mathlib.Nat.{le-of-suc-le-suc, eq-or-lt-of-le, not-suc-le-zero}
 use native.Mathlib.Numerals.{add-one}
 use native.Mathlib.Omega.{arith}
-use lib.ListN.{length, getD, set, drop, length-append, List·getD-append, length-set, length-drop}
-use lib.Seq.{getD-at, set-at, drop-cons, ext-getD}
+use lib.ListN.{length, getD, set, drop, length-append, List·getD-append}
+use lib.Seq.{getD-at, set-at, drop-cons}
 use Rattle.refusals.specs.Search.{tabulate}
 
 module _ (f : ℕ → ℕ) where

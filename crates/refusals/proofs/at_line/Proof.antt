@@ -3,19 +3,14 @@ use Rattle.refusals.specs.Verdict.{lineVerdict}
 use borrow.Author.Needs.{needs}
 use Rattle.refusals.proofs.at_line.Statement.{statement}
 use Rattle.refusals.proofs.at_line.Tie as tie
-use Rattle.refusals.proofs.at_line.Reads as reads
-use Rattle.refusals.proofs.at_line.Lts as lts
 
--- src/lib.rt:69:35
 add-t6 : tie.Need-add-t6
 add-t6 c = search needs
 
--- src/lib.rt:64:1
 returns : tie.Need-returns
 unfolding lineVerdict
 returns c = rw (lt-ltb _ _ (c .if1 .taken))
 
--- src/lib.rt:64:1
 returns-2 : tie.Need-returns-2
 unfolding lineVerdict
 returns-2 c = rw (le-ltb _ _ (c .if1 .left))

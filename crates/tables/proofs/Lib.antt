@@ -1,0 +1,8 @@
+-- The laws of lines, numbers and rows.
+pub mod Pieces
+mod Leading
+mod Names
+pub mod Walk
+mod Rows
+mod Fields
+pub mod Judged

@@ -1,0 +1,68 @@
+-- What the reader's own steps find: a number and a line at the start of a text. Assumes nothing.
+use mathlib.Core.Path.{_≡_}
+use mathlib.Core.Bool.{Bool, cond, _&&_}
+use mathlib.Core.List.{List, [], _∷_}
+use Prim.Native.Nat.{ℕ, suc, _+_, _<_, _≤_}
+use lib.ListN.{length, getD, take, drop, replicate}
+use lib.Seq.{sets}
+use lib.Dec.{eqb, ltb}
+use Rattle.tables.specs.declared.Number.{Number}
+use Rattle.tables.specs.declared.Line.{Line}
+use Rattle.tables.specs.declared.Form.{Form}
+use Rattle.tables.specs.declared.Form.the-variants.{Whole, Broken}
+use Rattle.tables.specs.declared.Span.{Span}
+use Rattle.tables.specs.Lines.{upTo, past, valueLines, lineStart, shownLine}
+use Rattle.tables.specs.Numbers.{isDigit, isNumber, decimal, isRow, numbers}
+use Rattle.tables.specs.Table.{firstBroken, isBroken}
+
+-- the byte x stands in the text
+unfoldable pub has : ℕ → List ℕ → Bool
+has x text = ltb (length (upTo x text)) (length text)
+
+-- the digits at the start of a text
+unfoldable pub leading : List ℕ → List ℕ
+leading [] = []
+leading (b ∷ text) = cond (isDigit b) (b ∷ leading text) []
+
+abbrev pub noNumber : Number
+noNumber = record { length = 0; value = 0 }
+
+-- the text starts with a number and the byte x
+unfoldable pub startsField : ℕ → List ℕ → Bool
+startsField x text = isNumber (leading text) && (ltb (length (leading text)) (length text) && eqb (getD text (length (leading text)) 0) x)
+
+-- the number at the start of a text; length 0 if its leading digits are none
+unfoldable pub numberOf : List ℕ → Number
+numberOf text = cond (isNumber (leading text)) (record { length = length (leading text); value = decimal 0 (leading text) }) noNumber
+
+-- the number at the start of a text that the byte x ends, with the length of both; length 0 if there is none
+unfoldable pub fieldOf : ℕ → List ℕ → Number
+fieldOf x text = cond (startsField x text) (record { length = suc (length (leading text)); value = decimal 0 (leading text) }) noNumber
+
+-- the text starts with a line of k numbers
+unfoldable pub startsRow : ℕ → List ℕ → Bool
+startsRow k text = has 10 text && isRow k (upTo 10 text)
+
+abbrev pub noLine : Line
+noLine = record { length = 0; values = replicate 7 0 }
+
+-- the line of k numbers at the start of a text, with its length, byte 10 included; length 0 if there is none
+unfoldable pub lineOf : ℕ → List ℕ → Line
+lineOf k text = cond (startsRow k text) (record { length = suc (length (upTo 10 text)); values = sets (replicate 7 0) 0 (numbers (upTo 10 text)) }) noLine
+
+-- how many value lines there are, or the first broken one
+unfoldable pub formOf : ℕ → List ℕ → Form
+formOf k file = cond (isBroken k file) (Broken (firstBroken k (valueLines file))) (Whole (length (valueLines file)))
+
+-- value line n lies at the span, inside the file
+pub record Found (file : List ℕ) (n : ℕ) (span : Span) : Type 0 where
+  pub start-is : span .start ≡ lineStart file n
+  pub length-is : span .length ≡ length (shownLine file n)
+  pub inside : span .start + span .length ≤ length file
+  pub bytes : take (span .length) (drop (span .start) file) ≡ shownLine file n
+
+-- the next line starts at r, past the line at `at` where byte 10 ends that one, or r is the file's end
+pub record Next (file : List ℕ) (at r : ℕ) : Type 0 where
+  pub within : r ≤ length file
+  pub rest : drop r file ≡ past 10 (drop at file)
+  pub moved : length (upTo 10 (drop at file)) < length (drop at file) → r ≡ at + length (upTo 10 (drop at file)) + 1
