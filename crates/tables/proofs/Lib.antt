@@ -6,3 +6,4 @@ pub mod Walk
 mod Rows
 mod Fields
 pub mod Judged
+pub mod Values
