@@ -7,3 +7,4 @@ mod Rows
 mod Fields
 pub mod Judged
 pub mod Values
+pub mod Columns

@@ -1,0 +1,46 @@
+-- What a record has that rule 4 accepts, and that each rule accepts a record that all of them together accept.
+-- Assumes nothing.
+use mathlib.Core.Path.{_≡_}
+use mathlib.Core.Bool.{true}
+use Prim.Native.Nat.{ℕ, _<_, _≤_}
+use lib.ListN.{getD}
+use borrow.Author.Tests.{leb-true, not-false}
+use Rattle.refusals.specs.declared.Verdict.the-variants.{Accepted}
+use Rattle.refusals.specs.Verdict.{rule3}
+use Rattle.refusals.proofs.Accepts.{and-left, and-right, none-breaks, first-accepts, next-accepts}
+use Rattle.cell.specs.declared.Cell.{Cell}
+use Rattle.cell.specs.Rules.{inRange, leavesRange, rule4, rule5, rule6, checkCell}
+
+-- what rule 4 leaves of the numbers of line n
+pub record LineInRange (c : Cell) (n : ℕ) : Type 0 where
+  pub resource : getD (c .resource) n 0 ≤ 5
+  pub from : getD (c .from) n 0 ≤ 7
+  pub act : getD (c .act) n 0 ≤ 3
+  pub arg : getD (c .arg) n 0 ≤ 63
+  pub to : getD (c .to) n 0 ≤ 7
+
+pub line-in-range : (c : Cell) → rule4 c ≡ Accepted → (n : ℕ) → n < c .count → LineInRange c n
+unfolding rule4 leavesRange inRange
+line-in-range c e n low =
+    let all : inRange (getD (c .resource) n 0) (getD (c .from) n 0) (getD (c .act) n 0) (getD (c .arg) n 0) (getD (c .to) n 0) ≡ true = not-false _ (none-breaks _ _ _ e n low) in
+    record {
+      resource = leb-true _ _ (search (and-left, and-right));
+      from = leb-true _ _ (search (and-left, and-right));
+      act = leb-true _ _ (search and-left);
+      arg = leb-true _ _ (search (and-left, and-right));
+      to = leb-true _ _ (search (and-left, and-right));
+    }
+
+-- the rules of a cell record, each by itself
+pub record EachAccepts (c : Cell) : Type 0 where
+  pub third : rule3 (c .count) ≡ Accepted
+  pub fourth : rule4 c ≡ Accepted
+  pub fifth : rule5 c ≡ Accepted
+  pub sixth : rule6 c ≡ Accepted
+
+pub each-accepts : (c : Cell) → checkCell c ≡ Accepted → EachAccepts c
+unfolding checkCell
+each-accepts c e =
+    let from4 = next-accepts _ _ e in
+    let from5 = next-accepts _ _ from4 in
+    record { third = first-accepts _ _ e; fourth = first-accepts _ _ from4; fifth = first-accepts _ _ from5; sixth = next-accepts _ _ from5 }

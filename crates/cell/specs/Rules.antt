@@ -1,0 +1,70 @@
+-- The rules on a cell record, in the order of the refusal list. Each sees the first `count` lines alone.
+-- Assumes nothing.
+use mathlib.Core.Bool.{Bool, cond, not, _&&_, _||_}
+use mathlib.Core.List.{List}
+use Prim.Native.Nat.{ℕ}
+use lib.ListN.{getD}
+use lib.Dec.{eqb, leb}
+use Rattle.refusals.specs.declared.Verdict.{Verdict}
+use Rattle.refusals.specs.declared.Refusal.the-variants.{Range, ResourceGap, NoPartner}
+use Rattle.refusals.specs.Search.{anyBelow, greatestBelow}
+use Rattle.refusals.specs.Verdict.{before, firstLine, noLine, rule3}
+use Rattle.cell.specs.declared.Cell.{Cell}
+
+-- "Ranges: resource 0 to 5, from and to 0 to 7, arg 0 to 63, act: 0 internal, 1 operation, 2 in, 3 out."
+unfoldable pub inRange : ℕ → ℕ → ℕ → ℕ → ℕ → Bool
+inRange resource from act arg to = leb act 3 && (leb resource 5 && (leb from 7 && (leb arg 63 && leb to 7)))
+
+-- "A number leaves its range": one of line n's numbers does
+unfoldable pub leavesRange : List ℕ → List ℕ → List ℕ → List ℕ → List ℕ → ℕ → Bool
+leavesRange resource from act arg to n = not (inRange (getD resource n 0) (getD from n 0) (getD act n 0) (getD arg n 0) (getD to n 0))
+
+-- "4. A number leaves its range."
+unfoldable pub rule4 : Cell → Verdict
+rule4 c = firstLine Range (leavesRange (c .resource) (c .from) (c .act) (c .arg) (c .to)) (c .count)
+
+-- "Cell: a resource .. has no line": line n is one of resource k
+unfoldable pub isOf : List ℕ → ℕ → ℕ → Bool
+isOf resource k n = eqb (getD resource n 0) k
+
+-- "the greatest resource number"
+unfoldable pub greatestResource : List ℕ → ℕ → ℕ
+greatestResource resource count = greatestBelow (λ n. getD resource n 0) count
+
+-- "a resource .. has no line": none of the lines is of resource k
+unfoldable pub hasNoLine : List ℕ → ℕ → ℕ → Bool
+hasNoLine resource count k = not (anyBelow (isOf resource k) count)
+
+-- "a resource below the greatest has no line"
+unfoldable pub gap : List ℕ → ℕ → Bool
+gap resource count = anyBelow (hasNoLine resource count) (greatestResource resource count)
+
+-- "5. Cell: a resource below the greatest has no line."
+unfoldable pub rule5 : Cell → Verdict
+rule5 c = noLine ResourceGap (gap (c .resource) (c .count))
+
+-- "the other act": in for out, out for in; no act has the number 255
+unfoldable pub otherAct : ℕ → ℕ
+otherAct act = cond (eqb act 2) 3 (cond (eqb act 3) 2 255)
+
+-- "line of another resource has the other act on that port": line k is one for line i
+unfoldable pub partner : List ℕ → List ℕ → List ℕ → ℕ → ℕ → Bool
+partner resource act arg i k =
+    eqb (getD act k 0) (otherAct (getD act i 0))
+    && (eqb (getD arg k 0) (getD arg i 0) && not (eqb (getD resource k 0) (getD resource i 0)))
+
+-- "act: .. 2 in, 3 out"
+unfoldable pub inOrOut : ℕ → Bool
+inOrOut act = eqb act 2 || eqb act 3
+
+-- "for an in or out line, no line": line i is an in or out line, and no line is a partner of it
+unfoldable pub unpaired : List ℕ → List ℕ → List ℕ → ℕ → ℕ → Bool
+unpaired resource act arg count i = inOrOut (getD act i 0) && not (anyBelow (partner resource act arg i) count)
+
+-- "6. Cell: for an in or out line, no line of another resource has the other act on that port."
+unfoldable pub rule6 : Cell → Verdict
+rule6 c = firstLine NoPartner (unpaired (c .resource) (c .act) (c .arg) (c .count)) (c .count)
+
+-- "Planner and run calls check handed-in values anew from rule 3, cell first: all of its rules"
+unfoldable pub checkCell : Cell → Verdict
+checkCell c = before (rule3 (c .count)) (before (rule4 c) (before (rule5 c) (rule6 c)))

@@ -1,0 +1,89 @@
+// The cell: its record, the rules on a record, and its reader.
+mod ports;
+mod range;
+mod reader;
+mod resources;
+
+ghost use mathlib.Core.Path.{_≡_};
+ghost use Prim.Native.Nat.{_≤_};
+ghost use Rattle.refusals.specs.Verdict.{before};
+ghost use Rattle.cell.specs.Reader.{readCell};
+ghost use Rattle.cell.specs.Rules.{rule4, rule5, rule6, checkCell};
+use refusals::Refusal;
+use refusals::Verdict;
+use tables::Form;
+
+// The lines of a cell, an array for each field; what lies past the count counts for nothing.
+pub struct Cell {
+    pub count: usize,
+    pub resource: [u8; 64],
+    pub from: [u8; 64],
+    pub act: [u8; 64],
+    pub arg: [u8; 64],
+    pub to: [u8; 64],
+}
+
+// What a reader returns: the record, or a record of no lines with the refusal.
+pub struct CellReading {
+    pub verdict: Verdict,
+    pub cell: Cell,
+}
+
+// Rule 4, on a record that passed rule 3.
+fn check_ranges(cell: Cell) -> Verdict
+    requires { ⌜ cell .count ≤ 64 ⌝ }
+    ensures { λ r. ⌜ r ≡ rule4 cell ⌝ }
+{
+    let count = cell.count;
+    let resource = cell.resource;
+    let from = cell.from;
+    let act = cell.act;
+    let arg = cell.arg;
+    let to = cell.to;
+    let first = range::first_out_of_range(&resource, &from, &act, &arg, &to, count);
+    refusals::at_line(Refusal::Range, first, count)
+}
+
+// Rules 5 and 6, on a record that passed rules 3 and 4.
+pub fn check_ports(cell: Cell) -> Verdict
+    requires { ⌜ cell .count ≤ 64 ⌝ }
+    ensures { λ r. ⌜ r ≡ before (rule5 cell) (rule6 cell) ⌝ }
+{
+    let count = cell.count;
+    let resource = cell.resource;
+    let act = cell.act;
+    let arg = cell.arg;
+    if resources::has_gap(&resource, count) {
+        return Verdict::Refused(Refusal::ResourceGap, 0);
+    }
+    let first = ports::first_unpaired(&resource, &act, &arg, count);
+    refusals::at_line(Refusal::NoPartner, first, count)
+}
+
+// Rules 3 to 6 on a record handed in, whatever is in it.
+pub fn check_cell(cell: Cell) -> Verdict
+    ensures { λ r. ⌜ r ≡ checkCell cell ⌝ }
+{
+    let counted = refusals::check_count(cell.count);
+    let Verdict::Accepted = counted else {
+        return counted;
+    };
+    let ranged = check_ranges(cell);
+    let Verdict::Accepted = ranged else {
+        return ranged;
+    };
+    check_ports(cell)
+}
+
+// The cell that a file writes, whatever is in it.
+pub fn read_cell(file: &[u8]) -> CellReading
+    ensures { λ r. ⌜ r ≡ readCell (now (file .entry)) ⌝ }
+{
+    if !tables::rules::has_names(file, b"resource,from,act,arg,to\n") {
+        return reader::refused(Refusal::Names, 1);
+    }
+    match tables::rules::check_lines(file, 5) {
+        Form::Broken(n) => reader::refused(Refusal::Form, n + 2),
+        Form::Whole(count) => reader::read_lines(file, count),
+    }
+}
