@@ -1,14 +1,19 @@
 -- What a record has that rule 4 accepts, and that each rule accepts a record that all of them together accept.
 -- Assumes nothing.
-use mathlib.Core.Path.{_≡_}
+use mathlib.Core.Path.{_≡_, refl}
 use mathlib.Core.Bool.{true}
+use mathlib.Core.List.{List}
 use Prim.Native.Nat.{ℕ, _<_, _≤_}
-use lib.ListN.{getD}
+use native.Mathlib.Omega.{arith}
+use lib.ListN.{length, getD}
 use borrow.Author.Tests.{leb-true, not-false}
-use Rattle.refusals.specs.declared.Verdict.the-variants.{Accepted}
+use Rattle.refusals.specs.declared.Verdict.the-variants.{Accepted, Refused}
+use Rattle.refusals.specs.declared.Verdict.{Verdict}
 use Rattle.refusals.specs.Verdict.{rule3}
-use Rattle.refusals.proofs.Accepts.{and-left, and-right, none-breaks, first-accepts, next-accepts}
+use Rattle.refusals.proofs.Verdicts.{and-left, and-right, none-breaks, first-accepts, next-accepts, count-in-range}
+use Rattle.tables.specs.Lines.{valueLines}
 use Rattle.cell.specs.declared.Cell.{Cell}
+use Rattle.cell.specs.Reader.{cellOf, judgeCell, reading, readCell}
 use Rattle.cell.specs.Rules.{inRange, leavesRange, rule4, rule5, rule6, checkCell}
 
 -- what rule 4 leaves of the numbers of line n
@@ -44,3 +49,12 @@ each-accepts c e =
     let from4 = next-accepts _ _ e in
     let from5 = next-accepts _ _ from4 in
     record { third = first-accepts _ _ e; fourth = first-accepts _ _ from4; fifth = first-accepts _ _ from5; sixth = next-accepts _ _ from5 }
+
+-- a reader's record has at most 64 lines, refused or not
+pub read-few : (file : List ℕ) → readCell file .cell .count ≤ 64
+unfolding readCell judgeCell reading cellOf
+read-few file = judge (judgeCell file) refl
+  where
+    judge : (v : Verdict) → judgeCell file ≡ v → reading v (cellOf file) .cell .count ≤ 64
+    judge Accepted e = count-in-range (length (valueLines file)) (each-accepts (cellOf file) (next-accepts _ _ (next-accepts _ _ e)) .third) .most
+    judge (Refused refusal line) e = omega arith

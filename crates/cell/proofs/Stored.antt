@@ -12,7 +12,7 @@ use Rattle.refusals.specs.declared.Refusal.the-variants.{Range}
 use Rattle.refusals.specs.Search.{firstBelow}
 use Rattle.refusals.specs.Verdict.{before}
 use Rattle.refusals.proofs.Scan.{first-more}
-use Rattle.refusals.proofs.Accepts.{and-left, and-right, line-found, line-none}
+use Rattle.refusals.proofs.Verdicts.{and-left, and-right, line-found, line-none}
 use Rattle.tables.specs.declared.Line.{Line}
 use Rattle.tables.specs.Lines.{valueLines}
 use Rattle.tables.specs.Table.{column}

@@ -1,4 +1,4 @@
 -- The laws of the searches and of the verdicts, which the proofs of every crate above cite.
 pub mod Scan
 pub mod Listed
-pub mod Accepts
+pub mod Verdicts

@@ -115,3 +115,20 @@ module _ (f : ℕ → ℕ) where
       (λ e. subst (λ (m : ℕ). f m ≤ max (f n) (greatestBelow f n)) (sym e) (le-max-left (f n) (greatestBelow f n)))
       (λ lt. omega (arith, greatest-at i n lt, le-max-right (f n) (greatestBelow f n)))
       (eq-or-lt-of-le (le-of-suc-le-suc low))
+
+-- what a loop that counted up to n has shown: a search that found nothing before n
+pub first-all : (f : ℕ → Bool) (first n : ℕ) → first ≡ firstBelow f n → n ≤ first → firstBelow f n ≡ n
+first-all f first n found high = omega (arith, first-le f n)
+
+module _ (f : ℕ → Bool) (i n : ℕ) (low : i ≤ n) (high : n ≤ i) where
+  end : i ≡ n
+  end = omega arith
+
+  pub first-end : firstBelow f i ≡ i → n ≡ firstBelow f n
+  first-end h = sym (subst (λ (m : ℕ). firstBelow f m ≡ m) end h)
+
+  pub any-end : anyBelow f i ≡ false → false ≡ anyBelow f n
+  any-end h = sym (subst (λ (m : ℕ). anyBelow f m ≡ false) end h)
+
+  pub count-end : (found : ℕ) → found ≡ countBelow f i → found ≡ countBelow f n
+  count-end found h = subst (λ (m : ℕ). found ≡ countBelow f m) end h

@@ -8,7 +8,7 @@ use lib.Dec.{eqb}
 use lib.ListN.{length, getD, drop, replicate, length-map, length-drop, List·getD-append}
 use lib.Seq.{sets, sets-eq, getD-drop}
 use borrow.Author.Tests.{lt-ltb, ltb-false, eqb-true}
-use Rattle.refusals.proofs.Accepts.{and-left, or-left}
+use Rattle.refusals.proofs.Verdicts.{and-left, or-left}
 use Rattle.tables.specs.declared.Line.{Line}
 use Rattle.tables.specs.declared.Form.the-variants.{Whole, Broken}
 use Rattle.tables.specs.Lines.{upTo, past, lengthened, parted, ended, lines, valueText, valueLines}

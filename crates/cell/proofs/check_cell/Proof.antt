@@ -1,7 +1,7 @@
 use mathlib.Core.Path.{sym, _∙_}
 use Rattle.refusals.specs.Verdict.{before}
 use Rattle.cell.specs.Rules.{checkCell}
-use Rattle.refusals.proofs.Accepts.{count-in-range}
+use Rattle.refusals.proofs.Verdicts.{count-in-range}
 use borrow.Author.Needs.{needs}
 use Rattle.cell.proofs.check_cell.Statement.{statement}
 use Rattle.cell.proofs.check_cell.Tie as tie

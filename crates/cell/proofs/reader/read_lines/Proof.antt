@@ -2,7 +2,7 @@ use mathlib.Core.Path.{_≡_, sym, _∙_}
 use borrow.Author.Needs.{needs}
 use Rattle.refusals.specs.declared.Verdict.the-variants.{Accepted}
 use Rattle.refusals.specs.Verdict.{before, rule3}
-use Rattle.refusals.proofs.Accepts.{count-in-range}
+use Rattle.refusals.proofs.Verdicts.{count-in-range}
 use Rattle.cell.specs.Rules.{checkCell}
 use Rattle.cell.specs.Reader.{cellOf, reading}
 use Rattle.cell.proofs.reader.read_lines.Statement.{statement}

@@ -1,5 +1,5 @@
--- What a verdict that accepts says of what was judged. Assumes nothing.
-use mathlib.Core.Path.{_≡_, refl}
+-- Rules tried one after another: what their verdict is, and what one that accepts says of what was judged. Assumes nothing.
+use mathlib.Core.Path.{_≡_, refl, sym, ap, _∙_}
 use mathlib.Core.Bool.{Bool, true, false, cond, _&&_, _||_}
 use Prim.Native.Nat.{ℕ, _+_, _<_, _≤_}
 use native.Mathlib.Omega.{arith}
@@ -72,3 +72,27 @@ module _ (refusal : Refusal) (breaks : ℕ → Bool) (count : ℕ) where
   pub line-none : firstBelow breaks count ≡ count → firstLine refusal breaks count ≡ Accepted
   unfolding firstLine lineVerdict
   line-none none = rw (none, le-ltb count count (omega arith))
+
+-- a rule that refuses is the verdict
+pub refuses : {v w : Verdict} (rest : Verdict) {refusal : Refusal} {line : ℕ} → v ≡ w → v ≡ Refused refusal line → v ≡ before w rest
+unfolding before
+refuses rest e told = told ∙ ap (λ (x : Verdict). before x rest) (sym told ∙ e)
+
+-- one that accepts leaves it to the next
+pub accepts : {v w x rest : Verdict} → v ≡ w → v ≡ Accepted → x ≡ rest → x ≡ before w rest
+unfolding before
+accepts {rest = rest} e told next = next ∙ ap (λ (y : Verdict). before y rest) (sym told ∙ e)
+
+-- the same of a rule on each line, of which `first` is the first that breaks it
+module _ (refusal : Refusal) (f : ℕ → Bool) (count first : ℕ) (found : first ≡ firstBelow f count) where
+  pub line : {v : Verdict} → v ≡ lineVerdict refusal first count → v ≡ firstLine refusal f count
+  unfolding firstLine
+  line e = rw (← found) e
+
+  pub broken : (rest : Verdict) → first < count → Refused refusal (first + 2) ≡ before (firstLine refusal f count) rest
+  unfolding before firstLine lineVerdict
+  broken rest low = rw (← found, lt-ltb first count low)
+
+  pub kept : {v rest : Verdict} → count ≤ first → v ≡ rest → v ≡ before (firstLine refusal f count) rest
+  unfolding before firstLine lineVerdict
+  kept high next = rw (← found, le-ltb first count high) next

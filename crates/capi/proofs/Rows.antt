@@ -1,0 +1,60 @@
+-- Rows of bytes put one after another into a buffer. Assumes nothing.
+use mathlib.Core.Path.{_≡_, refl, sym, ap, _∙_}
+use mathlib.Core.List.{List, _∷_, _++_}
+use Prim.Native.Nat.{ℕ, zero, suc, _+_, _*_, _<_, _≤_}
+use native.Mathlib.Numerals.{add-one}
+use native.Mathlib.Omega.{arith}
+use lib.ListN.{length, set, drop, length-append, length-drop}
+use lib.Seq.{take-at, drop-append-add, drop-drop, sets, sets-eq, set-split, drop-set-lt, length-sets}
+use Rattle.capi.specs.Encoding.{rowsOf}
+
+-- some bytes put after what was put before
+put-after : (P old vs : List ℕ) → length P + length vs ≤ length old
+    → sets (P ++ drop (length P) old) (length P) vs ≡ (P ++ vs) ++ drop (length P + length vs) old
+put-after P old vs room =
+    sets-eq vs (P ++ drop (length P) old) (length P) (omega (arith, length-append P (drop (length P) old), length-drop (length P) old))
+    ∙ ap (λ (l : List ℕ). (l ++ vs) ++ drop (length P + length vs) (P ++ drop (length P) old)) (take-at P (drop (length P) old) (length P) refl)
+    ∙ ap (λ (l : List ℕ). (P ++ vs) ++ l) (drop-append-add P (drop (length P) old) (length vs) ∙ drop-drop (length vs) (length P) old)
+
+-- the first byte, and i rows of k bytes each, are put
+pub record Put (row : ℕ → List ℕ) (k count : ℕ) (old : List ℕ) (i at : ℕ) (buffer : List ℕ) : Type 0 where
+  pub at-is : at ≡ 1 + k * i
+  pub size : length buffer ≡ length old
+  pub is : buffer ≡ (count ∷ rowsOf row i) ++ drop at old
+
+pub put-none : (row : ℕ → List ℕ) (k count : ℕ) (entry : List ℕ) → 0 < length entry → Put row k count (set entry 0 count) 0 1 (set entry 0 count)
+unfolding rowsOf
+put-none row k count entry some =
+    record { at-is = omega arith; size = refl; is = set-split entry 0 count some ∙ ap (λ (l : List ℕ). count ∷ l) (sym (drop-set-lt 1 entry 0 count (omega arith))) }
+
+module _ (row : ℕ → List ℕ) (k : ℕ) (wide : (n : ℕ) → length (row n) ≡ k) where
+  rows-length : (n : ℕ) → length (rowsOf row n) ≡ k * n
+  unfolding rowsOf
+  rows-length zero = omega arith
+  rows-length (suc n) = length-append (rowsOf row n) (row n) ∙ omega (arith, rows-length n, wide n)
+
+  module _ (count : ℕ) (old : List ℕ) (i at : ℕ) (buffer : List ℕ) (P : Put row k count old i at buffer) where
+    pub put-more : at + k ≤ length old → Put row k count old (i + 1) (at + k) (sets buffer at (row i))
+    unfolding rowsOf
+    put-more room =
+        let next : length (count ∷ rowsOf row i) + length (row i) ≡ at + k = omega (arith, rows-length i, P .at-is, wide i) in
+        let put : length (count ∷ rowsOf row i) ≡ at = omega (arith, rows-length i, P .at-is) in
+        record {
+          at-is = omega (arith, P .at-is);
+          size = length-sets buffer at (row i) ∙ P .size;
+          is =
+              rw (add-one i)
+              (ap (λ (b : List ℕ). sets b at (row i)) (P .is)
+              ∙ ap (λ (n : ℕ). sets ((count ∷ rowsOf row i) ++ drop n old) n (row i)) (sym put)
+              ∙ put-after (count ∷ rowsOf row i) old (row i) (omega (arith, wide i))
+              ∙ ap (λ (n : ℕ). ((count ∷ rowsOf row i) ++ row i) ++ drop n old) next);
+        }
+
+-- all rows are put
+pub put-all : (row : ℕ → List ℕ) (k count : ℕ) (entry : List ℕ) (i at size : ℕ) (buffer : List ℕ) → Put row k count (set entry 0 count) i at buffer → i ≡ 64
+    → 1 + k * 64 ≡ size
+    → buffer ≡ (count ∷ rowsOf row 64) ++ drop size entry
+put-all row k count entry i at size buffer P end all =
+    let place : at ≡ size = P .at-is ∙ ap (λ (n : ℕ). 1 + k * n) end ∙ all in
+    P .is ∙ ap (λ (n : ℕ). (count ∷ rowsOf row n) ++ drop at (set entry 0 count)) end
+    ∙ ap (λ (l : List ℕ). (count ∷ rowsOf row 64) ++ l) (drop-set-lt at entry 0 count (omega (arith, P .at-is)) ∙ ap (λ (n : ℕ). drop n entry) place)

@@ -1,0 +1,48 @@
+use mathlib.Core.List.{_++_}
+use lib.ListN.{drop}
+use mathlib.Core.Path.{sym, ap, _∙_, subst}
+use Prim.Native.Nat.{_≤_}
+use Rattle.cell.specs.declared.CellReading.{CellReading}
+use Rattle.cell.proofs.Accepted.{read-few}
+use Rattle.capi.specs.Encoding.{codeOf, cellBytes}
+use Rattle.capi.proofs.Answers.{too-short, answered}
+use borrow.Author.Needs.{needs}
+use Rattle.capi.proofs.cellplan_read_cell.Statement.{statement}
+use Rattle.capi.proofs.cellplan_read_cell.Tie as tie
+
+number-requires : tie.Need-number-requires
+number-requires c κs = search needs
+
+cast-result : tie.Need-cast-result
+cast-result c = search needs
+
+returns : tie.Need-returns
+returns c = too-short _ _ 321 (c .before .before .before .before .args .buffer .now) (c .number .result) (c .before .if1 .taken) (c .number .ensures)
+
+read-cell-requires : tie.Need-read-cell-requires
+read-cell-requires c κs = search needs
+
+put-cell-requires : tie.Need-put-cell-requires
+put-cell-requires c κs = let few : c .before .before .read-cell .result .cell .count ≤ 64 = subst (λ (r : CellReading). r .cell .count ≤ 64) (sym (c .before .before .read-cell .ensures)) (read-few (c .before .before .before .before .before .before .args .file .now)) in (few, c .before .before .before .if1 .left)
+
+code-requires : tie.Need-code-requires
+code-requires c κs = search needs
+
+same-length : tie.Need-same-length
+same-length c = search needs
+
+returns-2 : tie.Need-returns-2
+returns-2 c = answered _ _ 321 (c .before .before .before .before .before .before .before .before .before .before .args .buffer .now) (c .before .before .before .put-cell .last .1 .0) (c .code .result) (c .before .before .before .before .before .before .before .if1 .left) (c .code .ensures ∙ ap (λ (r : CellReading). codeOf (r .verdict)) (c .before .before .before .before .before .before .read-cell .ensures)) (c .before .before .before .put-cell .ensures ∙ ap (λ (r : CellReading). cellBytes (r .cell) ++ drop 321 (c .before .before .before .before .before .before .before .before .before .before .args .buffer .now)) (c .before .before .before .before .before .before .read-cell .ensures))
+
+pub cellplan-read-cell-spec : {M : Type 1} → statement M
+cellplan-read-cell-spec =
+    tie.close
+    (tie.spec
+    number-requires
+    cast-result
+    returns
+    read-cell-requires
+    put-cell-requires
+    code-requires
+    same-length
+    returns-2)

@@ -1,0 +1,84 @@
+use lib.ListN.{set}
+use Prim.Native.Nat.{_-_, _≤_}
+use mathlib.Core.Path.{refl, _∙_}
+use native.Mathlib.Omega.{arith}
+use lib.ListN.{length, length-set}
+use Rattle.capi.specs.Encoding.{cellRow, cellBytes}
+use Rattle.capi.proofs.Rows.{Put, put-none, put-more, put-all}
+use Rattle.capi.proofs.put.put_cell.Statement.{statement}
+use Rattle.capi.proofs.put.put_cell.Tie as tie
+
+abbrev Inv-loop : tie.InvT-loop
+Inv-loop buffer₀ count resource from act arg to at₀ i₀ buffer at i = (i ≤ 64) × (321 ≤ length buffer₀) × Put (cellRow (record { count = count; resource = resource; from = from; act = act; arg = arg; to = to })) 5 count buffer₀ i at buffer
+
+abbrev μ-loop : tie.MeasureT-loop
+μ-loop buffer₀ count resource from act arg to at₀ i₀ buffer at i = 64 - i
+
+cast-buffer : tie.Need-cast-buffer Inv-loop μ-loop
+cast-buffer c = omega arith
+
+slice-write-buffer : tie.Need-slice-write-buffer Inv-loop μ-loop
+slice-write-buffer c = omega arith
+
+loop-holds : tie.Need-loop-holds Inv-loop μ-loop
+loop-holds c = let e = c .before .before .before .before .before .before .args .buffer .now in let n = c .before .before .before .before .before .before .args .cell .count in (omega arith, simp length-set (c .before .before .before .before .before .before .pre .1), put-none (cellRow (c .before .before .before .before .before .before .args .cell)) 5 n e (omega arith))
+
+array-read-put-five : tie.Need-array-read-put-five Inv-loop μ-loop
+array-read-put-five c = omega arith
+
+array-read-put-five-2 : tie.Need-array-read-put-five-2 Inv-loop μ-loop
+array-read-put-five-2 c = omega arith
+
+array-read-put-five-3 : tie.Need-array-read-put-five-3 Inv-loop μ-loop
+array-read-put-five-3 c = omega arith
+
+array-read-put-five-4 : tie.Need-array-read-put-five-4 Inv-loop μ-loop
+array-read-put-five-4 c = omega arith
+
+array-read-put-five-5 : tie.Need-array-read-put-five-5 Inv-loop μ-loop
+array-read-put-five-5 c = omega arith
+
+put-five-requires : tie.Need-put-five-requires Inv-loop μ-loop
+put-five-requires c κs = let p = c .before .before .loop .inv .2 in omega (arith, p .at-is, p .size)
+
+add-at : tie.Need-add-at Inv-loop μ-loop
+add-at c = let p = c .before .before .before .before .before .loop .inv .2 in omega (arith, p .at-is)
+
+add-i : tie.Need-add-i Inv-loop μ-loop
+add-i c = omega arith
+
+loop-less : tie.Need-loop-less Inv-loop μ-loop
+loop-less c = omega arith
+
+loop-again : tie.Need-loop-again Inv-loop μ-loop
+unfolding cellRow
+loop-again c = let l = c .before .before .before .before .before .loop in let x = c .before .before .before .before .before .before .before .before .before .before .before .before .args .cell in let old = set (c .before .before .before .before .before .before .before .before .before .before .before .before .args .buffer .now) 0 (x .count) in (omega arith, l .inv .1, rw (c .before .before .put-five .ensures) (put-more (cellRow x) 5 (λ n. refl) (x .count) old (l .i) (l .at) (l .buffer) (l .inv .2) (omega (arith, l .inv .2 .at-is))))
+
+same-length : tie.Need-same-length Inv-loop μ-loop
+same-length c = c .before .loop .inv .2 .size ∙ simp length-set
+
+returns : tie.Need-returns Inv-loop μ-loop
+unfolding cellBytes
+returns c = let l = c .before .loop in let x = c .before .before .before .before .before .before .before .before .args .cell in put-all (cellRow x) 5 (x .count) (c .before .before .before .before .before .before .before .before .args .buffer .now) (l .i) (l .at) 321 (l .buffer) (l .inv .2) (omega arith) refl
+
+pub put-cell-spec : {M : Type 1} → statement M
+put-cell-spec =
+    tie.close
+    (tie.spec
+    Inv-loop
+    μ-loop
+    cast-buffer
+    slice-write-buffer
+    loop-holds
+    array-read-put-five
+    array-read-put-five-2
+    array-read-put-five-3
+    array-read-put-five-4
+    array-read-put-five-5
+    put-five-requires
+    add-at
+    add-i
+    loop-less
+    loop-again
+    same-length
+    returns)

@@ -1,0 +1,91 @@
+use Prim.Native.Nat.{_-_, _≤_}
+use mathlib.Core.Path.{refl, _∙_}
+use native.Mathlib.Omega.{arith}
+use lib.ListN.{length, set, length-set}
+use Rattle.capi.specs.Encoding.{recipeRow, recipeBytes}
+use Rattle.capi.proofs.Rows.{Put, put-none, put-more, put-all}
+use Rattle.capi.proofs.put.put_recipe.Statement.{statement}
+use Rattle.capi.proofs.put.put_recipe.Tie as tie
+
+abbrev Inv-loop : tie.InvT-loop
+Inv-loop buffer₀ count point kind op takes gives then otherwise at₀ i₀ buffer at i = (i ≤ 64) × (449 ≤ length buffer₀) × Put (recipeRow (record { count = count; point = point; kind = kind; op = op; takes = takes; gives = gives; then = then; otherwise = otherwise })) 7 count buffer₀ i at buffer
+
+abbrev μ-loop : tie.MeasureT-loop
+μ-loop buffer₀ count point kind op takes gives then otherwise at₀ i₀ buffer at i = 64 - i
+
+cast-buffer : tie.Need-cast-buffer Inv-loop μ-loop
+cast-buffer c = omega arith
+
+slice-write-buffer : tie.Need-slice-write-buffer Inv-loop μ-loop
+slice-write-buffer c = omega arith
+
+loop-holds : tie.Need-loop-holds Inv-loop μ-loop
+loop-holds c = let e = c .before .before .before .before .before .before .before .before .args .buffer .now in let n = c .before .before .before .before .before .before .before .before .args .recipe .count in (omega arith, simp length-set (c .before .before .before .before .before .before .before .before .pre .1), put-none (recipeRow (c .before .before .before .before .before .before .before .before .args .recipe)) 7 n e (omega arith))
+
+array-read-put-seven : tie.Need-array-read-put-seven Inv-loop μ-loop
+array-read-put-seven c = omega arith
+
+array-read-put-seven-2 : tie.Need-array-read-put-seven-2 Inv-loop μ-loop
+array-read-put-seven-2 c = omega arith
+
+array-read-put-seven-3 : tie.Need-array-read-put-seven-3 Inv-loop μ-loop
+array-read-put-seven-3 c = omega arith
+
+array-read-put-seven-4 : tie.Need-array-read-put-seven-4 Inv-loop μ-loop
+array-read-put-seven-4 c = omega arith
+
+array-read-put-seven-5 : tie.Need-array-read-put-seven-5 Inv-loop μ-loop
+array-read-put-seven-5 c = omega arith
+
+array-read-put-seven-6 : tie.Need-array-read-put-seven-6 Inv-loop μ-loop
+array-read-put-seven-6 c = omega arith
+
+array-read-put-seven-7 : tie.Need-array-read-put-seven-7 Inv-loop μ-loop
+array-read-put-seven-7 c = omega arith
+
+put-seven-requires : tie.Need-put-seven-requires Inv-loop μ-loop
+put-seven-requires c κs = let p = c .before .before .loop .inv .2 in omega (arith, p .at-is, p .size)
+
+add-at : tie.Need-add-at Inv-loop μ-loop
+add-at c = let p = c .before .before .before .before .before .loop .inv .2 in omega (arith, p .at-is)
+
+add-i : tie.Need-add-i Inv-loop μ-loop
+add-i c = omega arith
+
+loop-less : tie.Need-loop-less Inv-loop μ-loop
+loop-less c = omega arith
+
+loop-again : tie.Need-loop-again Inv-loop μ-loop
+unfolding recipeRow
+loop-again c = let l = c .before .before .before .before .before .loop in let x = c .before .before .before .before .before .before .before .before .before .before .before .before .before .before .args .recipe in let old = set (c .before .before .before .before .before .before .before .before .before .before .before .before .before .before .args .buffer .now) 0 (x .count) in (omega arith, l .inv .1, rw (c .before .before .put-seven .ensures) (put-more (recipeRow x) 7 (λ n. refl) (x .count) old (l .i) (l .at) (l .buffer) (l .inv .2) (omega (arith, l .inv .2 .at-is))))
+
+same-length : tie.Need-same-length Inv-loop μ-loop
+same-length c = c .before .loop .inv .2 .size ∙ simp length-set
+
+returns : tie.Need-returns Inv-loop μ-loop
+unfolding recipeBytes
+returns c = let l = c .before .loop in let x = c .before .before .before .before .before .before .before .before .before .before .args .recipe in put-all (recipeRow x) 7 (x .count) (c .before .before .before .before .before .before .before .before .before .before .args .buffer .now) (l .i) (l .at) 449 (l .buffer) (l .inv .2) (omega arith) refl
+
+pub put-recipe-spec : {M : Type 1} → statement M
+put-recipe-spec =
+    tie.close
+    (tie.spec
+    Inv-loop
+    μ-loop
+    cast-buffer
+    slice-write-buffer
+    loop-holds
+    array-read-put-seven
+    array-read-put-seven-2
+    array-read-put-seven-3
+    array-read-put-seven-4
+    array-read-put-seven-5
+    array-read-put-seven-6
+    array-read-put-seven-7
+    put-seven-requires
+    add-at
+    add-i
+    loop-less
+    loop-again
+    same-length
+    returns)

@@ -1,0 +1,66 @@
+use mathlib.Core.Path.{refl, sym, _∙_}
+use native.Mathlib.Omega.{arith}
+use borrow.Author.Needs.{needs}
+use borrow.Author.Tests.{not-true, not-false}
+use Rattle.refusals.specs.Verdict.{before}
+use Rattle.tables.specs.Table.{rule1, rule2}
+use Rattle.tables.proofs.Values.{whole, broken, broken-few}
+use Rattle.recipe.specs.Reader.{recipeNames, judgeRecipe, reading, readRecipe}
+use Rattle.recipe.proofs.read_recipe.Statement.{statement}
+use Rattle.recipe.proofs.read_recipe.Tie as tie
+
+slice-aggregate-has-names : tie.Need-slice-aggregate-has-names
+slice-aggregate-has-names c = refl
+
+has-names-requires : tie.Need-has-names-requires
+has-names-requires c κs = tt
+
+refused-requires : tie.Need-refused-requires
+refused-requires c κs = tt
+
+returns : tie.Need-returns
+unfolding before rule1 recipeNames judgeRecipe reading readRecipe
+returns c = c .refused .ensures ∙ rw (sym (c .before .before .has-names .ensures) ∙ not-true _ (c .before .if1 .taken))
+
+check-lines-requires : tie.Need-check-lines-requires
+check-lines-requires c κs = (omega arith, omega arith)
+
+enum-known-n : tie.Need-enum-known-n
+enum-known-n c = search needs
+
+add-refused : tie.Need-add-refused
+add-refused c = let f = c .before .before .before .before .before .before .before .before .args .file .now in let b = broken 7 f (c .before .n .given .0 .0) (sym (c .before .n .given .1) ∙ c .before .before .before .check-lines .ensures) in omega (arith, b .1, broken-few 7 f)
+
+refused-requires-2 : tie.Need-refused-requires-2
+refused-requires-2 c κs = tt
+
+enum-known-count : tie.Need-enum-known-count
+enum-known-count c = search needs
+
+read-lines-requires : tie.Need-read-lines-requires
+read-lines-requires c κs = whole 7 (c .before .before .before .before .before .before .before .before .args .file .now) (c .before .count .given .0 .0) (sym (c .before .count .given .1) ∙ c .before .before .before .check-lines .ensures)
+
+returns-2 : tie.Need-returns-2
+unfolding before rule1 rule2 recipeNames judgeRecipe reading readRecipe
+returns-2 c = let b = broken 7 (c .before .before .before .before .before .before .before .before .before .args .file .now) (c .before .before .n .given .0 .0) (sym (c .before .before .n .given .1) ∙ c .before .before .before .before .check-lines .ensures) in c .refused2 .ensures ∙ rw (sym (c .before .before .before .before .before .before .has-names .ensures) ∙ not-false _ (c .before .before .before .before .before .if1 .left), b .0, b .1)
+
+returns-3 : tie.Need-returns-3
+unfolding before rule1 rule2 recipeNames judgeRecipe reading readRecipe
+returns-3 c = let b = whole 7 (c .before .before .before .before .before .before .before .before .before .args .file .now) (c .before .before .count .given .0 .0) (sym (c .before .before .count .given .1) ∙ c .before .before .before .before .check-lines .ensures) in c .read-lines .ensures ∙ rw (sym (c .before .before .before .before .before .before .has-names .ensures) ∙ not-false _ (c .before .before .before .before .before .if1 .left), b .0)
+
+pub read-recipe-spec : {M : Type 1} → statement M
+read-recipe-spec =
+    tie.close
+    (tie.spec
+    slice-aggregate-has-names
+    has-names-requires
+    refused-requires
+    returns
+    check-lines-requires
+    enum-known-n
+    add-refused
+    refused-requires-2
+    enum-known-count
+    read-lines-requires
+    returns-2
+    returns-3)

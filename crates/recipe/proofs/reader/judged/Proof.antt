@@ -1,0 +1,36 @@
+use mathlib.Core.Path.{sym, _∙_}
+use Rattle.recipe.specs.Reader.{reading}
+use borrow.Author.Needs.{needs}
+use Rattle.recipe.proofs.reader.judged.Statement.{statement}
+use Rattle.recipe.proofs.reader.judged.Tie as tie
+
+check-points-requires : tie.Need-check-points-requires
+check-points-requires c κs = search needs
+
+enum-told : tie.Need-enum-told
+enum-told c = search needs
+
+enum-known-refusal : tie.Need-enum-known-refusal
+enum-known-refusal c = search needs
+
+refused-requires : tie.Need-refused-requires
+refused-requires c κs = search needs
+
+returns : tie.Need-returns
+unfolding reading
+returns c = rw (sym (c .before .before .check-points .ensures) ∙ c .enum-told .given .1)
+
+returns-2 : tie.Need-returns-2
+unfolding reading
+returns-2 c = c .refused .ensures ∙ rw (sym (c .before .before .before .before .check-points .ensures) ∙ c .before .before .refusal .given .1)
+
+pub judged-spec : {M : Type 1} → statement M
+judged-spec =
+    tie.close
+    (tie.spec
+    check-points-requires
+    enum-told
+    enum-known-refusal
+    refused-requires
+    returns
+    returns-2)

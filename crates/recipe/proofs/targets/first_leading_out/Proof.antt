@@ -1,0 +1,69 @@
+use mathlib.Core.Path.{_≡_, refl, sym, _∙_}
+use Prim.Native.Nat.{_≤_, _-_}
+use native.Mathlib.Omega.{arith}
+use Rattle.refusals.specs.Search.{firstBelow}
+use Rattle.refusals.proofs.Scan.{first-more, first-hit}
+use Rattle.recipe.specs.Rules.{breaksTarget}
+use Rattle.refusals.proofs.Scan.{first-end}
+use Rattle.recipe.proofs.targets.first_leading_out.Statement.{statement}
+use Rattle.recipe.proofs.targets.first_leading_out.Tie as tie
+
+abbrev Inv-loop : tie.InvT-loop
+Inv-loop points kind then otherwise count i₀ i = (i ≤ count) × (firstBelow (breaksTarget points kind then otherwise) i ≡ i)
+
+abbrev μ-loop : tie.MeasureT-loop
+μ-loop points kind then otherwise count i₀ i = count - i
+
+loop-holds : tie.Need-loop-holds Inv-loop μ-loop
+unfolding firstBelow
+loop-holds c = (omega arith, refl)
+
+element-copy-out-leads-out : tie.Need-element-copy-out-leads-out Inv-loop μ-loop
+element-copy-out-leads-out c = omega arith
+
+element-copy-out-leads-out-2 : tie.Need-element-copy-out-leads-out-2 Inv-loop μ-loop
+element-copy-out-leads-out-2 c = omega arith
+
+element-copy-out-leads-out-3 : tie.Need-element-copy-out-leads-out-3 Inv-loop μ-loop
+element-copy-out-leads-out-3 c = omega arith
+
+leads-out-requires : tie.Need-leads-out-requires Inv-loop μ-loop
+leads-out-requires c κs = omega arith
+
+returns : tie.Need-returns Inv-loop μ-loop
+unfolding breaksTarget
+returns c =
+    let turn = c .before .before .before .before .before in
+    sym (first-hit _ _ _ (turn .loop-test .taken) (turn .before .loop .inv .1) (sym (c .before .leads-out .ensures) ∙ c .if1 .taken))
+
+add-i : tie.Need-add-i Inv-loop μ-loop
+add-i c = omega arith
+
+loop-less : tie.Need-loop-less Inv-loop μ-loop
+loop-less c = omega arith
+
+loop-again : tie.Need-loop-again Inv-loop μ-loop
+unfolding breaksTarget
+loop-again c =
+    let turn = c .before .before .before .before .before in
+    (omega arith, first-more _ _ (turn .before .loop .inv .1) (sym (c .before .leads-out .ensures) ∙ c .if1 .left))
+
+returns-2 : tie.Need-returns-2 Inv-loop μ-loop
+returns-2 c = first-end _ _ _ (c .before .loop .inv .0) (c .loop-test .left) (c .before .loop .inv .1)
+
+pub first-leading-out-spec : {M : Type 1} → statement M
+first-leading-out-spec =
+    tie.close
+    (tie.spec
+    Inv-loop
+    μ-loop
+    loop-holds
+    element-copy-out-leads-out
+    element-copy-out-leads-out-2
+    element-copy-out-leads-out-3
+    leads-out-requires
+    returns
+    add-i
+    loop-less
+    loop-again
+    returns-2)

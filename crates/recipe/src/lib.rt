@@ -1,0 +1,118 @@
+// The recipe: its record, the rules on a record, and its reader.
+mod fields;
+mod parts;
+mod points;
+mod range;
+mod reader;
+mod targets;
+
+ghost use mathlib.Core.Path.{_≡_};
+ghost use Prim.Native.Nat.{_<_, _≤_};
+ghost use Rattle.recipe.specs.Reader.{readRecipe};
+ghost use Rattle.recipe.specs.Rules.{checkPoints, checkRecipe};
+use refusals::Refusal;
+use refusals::Verdict;
+use tables::Form;
+
+// The lines of a recipe, an array for each field; what lies past the count counts for nothing.
+// `otherwise` is the field that the file calls else.
+pub struct Recipe {
+    pub count: usize,
+    pub point: [u8; 64],
+    pub kind: [u8; 64],
+    pub op: [u8; 64],
+    pub takes: [u8; 64],
+    pub gives: [u8; 64],
+    pub then: [u8; 64],
+    pub otherwise: [u8; 64],
+}
+
+// What a reader returns: the record, or a record of no lines with the refusal.
+pub struct RecipeReading {
+    pub verdict: Verdict,
+    pub recipe: Recipe,
+}
+
+// Rules 7 to 12, on a record that passed rules 3 and 4.
+pub fn check_points(recipe: Recipe) -> Verdict
+    requires { ⌜ (0 < recipe .count) × (recipe .count ≤ 64) ⌝ }
+    ensures { λ r. ⌜ r ≡ checkPoints recipe ⌝ }
+{
+    let count = recipe.count;
+    let point = recipe.point;
+    let kind = recipe.kind;
+    let op = recipe.op;
+    let takes = recipe.takes;
+    let gives = recipe.gives;
+    let then = recipe.then;
+    let otherwise = recipe.otherwise;
+    let first = points::first_out_of_order(&point, count);
+    if first < count {
+        return Verdict::Refused(Refusal::PointOrder, first + 2);
+    }
+    let first = points::first_bad_repeat(&point, &kind, &then, count);
+    if first < count {
+        return Verdict::Refused(Refusal::RepeatedPoint, first + 2);
+    }
+    let first = fields::first_unused(&kind, &op, &takes, &gives, &then, &otherwise, count);
+    if first < count {
+        return Verdict::Refused(Refusal::UnusedField, first + 2);
+    }
+    let first = fields::first_without_parts(&kind, &takes, &gives, count);
+    if first < count {
+        return Verdict::Refused(Refusal::NoParts, first + 2);
+    }
+    let first = parts::first_common(&point, &takes, &gives, count);
+    if first < count {
+        return Verdict::Refused(Refusal::CommonPart, first + 2);
+    }
+    let all = points::point_count(&point, count);
+    let first = targets::first_leading_out(all, &kind, &then, &otherwise, count);
+    refusals::at_line(Refusal::TargetPoint, first, count)
+}
+
+// Rules 3, 4 and 7 to 12 on a record handed in, whatever is in it.
+pub fn check_recipe(recipe: Recipe) -> Verdict
+    ensures { λ r. ⌜ r ≡ checkRecipe recipe ⌝ }
+{
+    let count = recipe.count;
+    let counted = refusals::check_count(count);
+    let Verdict::Accepted = counted else {
+        return counted;
+    };
+    let point = recipe.point;
+    let kind = recipe.kind;
+    let op = recipe.op;
+    let takes = recipe.takes;
+    let gives = recipe.gives;
+    let then = recipe.then;
+    let otherwise = recipe.otherwise;
+    let first = range::first_out_of_range(
+        &point,
+        &kind,
+        &op,
+        &takes,
+        &gives,
+        &then,
+        &otherwise,
+        count,
+    );
+    let ranged = refusals::at_line(Refusal::Range, first, count);
+    let Verdict::Accepted = ranged else {
+        return ranged;
+    };
+    check_points(recipe)
+}
+
+// The recipe that a file writes, whatever is in it.
+pub fn read_recipe(file: &[u8]) -> RecipeReading
+    ensures { λ r. ⌜ r ≡ readRecipe (now (file .entry)) ⌝ }
+{
+    if !tables::rules::has_names(file, b"point,kind,op,takes,gives,then,else\n") {
+        return reader::refused(Refusal::Names, 1);
+    }
+    match tables::rules::check_lines(file, 7) {
+        Form::Broken(n) => reader::refused(Refusal::Form, n + 2),
+        Form::Whole(count) => reader::read_lines(file, count),
+    }
+}
