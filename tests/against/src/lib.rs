@@ -1,0 +1,122 @@
+//! The library's C interface as safe functions, and the two file formats with the library's reader
+//! and the independent one under the same signature, so that one test serves both formats.
+
+pub mod generate;
+pub mod random;
+
+use independent::{
+    cell_bytes, read_cell, read_recipe, recipe_bytes, Refusal, CELL_BYTES, CELL_NAMES,
+    RECIPE_BYTES, RECIPE_NAMES,
+};
+
+/// The refusal of a lent buffer that is too short.
+pub const TOO_SHORT: u8 = 14;
+
+mod c {
+    extern "C" {
+        pub fn cellplan_read_cell(
+            file: *const u8,
+            file_length: usize,
+            record: *mut u8,
+            record_length: usize,
+        ) -> u64;
+        pub fn cellplan_read_recipe(
+            file: *const u8,
+            file_length: usize,
+            record: *mut u8,
+            record_length: usize,
+        ) -> u64;
+        pub fn cellplan_line_start(file: *const u8, file_length: usize, n: usize) -> usize;
+        pub fn cellplan_line_length(file: *const u8, file_length: usize, n: usize) -> usize;
+    }
+}
+
+/// Where the library says that value line `n` starts.
+pub fn line_start(file: &[u8], n: usize) -> usize {
+    // SAFETY: the pointer and the length are those of a slice that outlives the call.
+    unsafe { c::cellplan_line_start(file.as_ptr(), file.len(), n) }
+}
+
+/// How long the library says that value line `n` is.
+pub fn line_length(file: &[u8], n: usize) -> usize {
+    // SAFETY: the pointer and the length are those of a slice that outlives the call.
+    unsafe { c::cellplan_line_length(file.as_ptr(), file.len(), n) }
+}
+
+/// A refusal as the C interface returns it.
+pub fn result(refusal: Refusal) -> u64 {
+    u64::from(refusal.number) + 256 * refusal.line as u64
+}
+
+/// One of the two file formats.
+pub trait Format {
+    /// The names line with its byte 10.
+    const NAMES: &'static [u8];
+    /// The top of each column's range.
+    const GREATEST: &'static [u32];
+    /// The refusals that the reader can give.
+    const REFUSALS: &'static [u8];
+    /// The length of a record.
+    const RECORD_BYTES: usize;
+
+    /// The library's reader, called through its C interface.
+    fn library(file: &[u8], record: &mut [u8]) -> u64;
+
+    /// The independent program's reader, for a `record` of exactly the record's length.
+    fn reading(file: &[u8], record: &mut [u8]) -> Refusal;
+
+    /// The independent program's reader, called as the library's is.
+    fn independent(file: &[u8], record: &mut [u8]) -> u64 {
+        match record.get_mut(..Self::RECORD_BYTES) {
+            Some(record) => result(Self::reading(file, record)),
+            None => u64::from(TOO_SHORT),
+        }
+    }
+}
+
+/// The cell file.
+pub struct CellFile;
+
+impl Format for CellFile {
+    const NAMES: &'static [u8] = CELL_NAMES;
+    const GREATEST: &'static [u32] = &[5, 7, 3, 63, 7];
+    const REFUSALS: &'static [u8] = &[1, 2, 3, 4, 5, 6];
+    const RECORD_BYTES: usize = CELL_BYTES;
+
+    fn library(file: &[u8], record: &mut [u8]) -> u64 {
+        // SAFETY: the pointers and lengths are those of two slices that outlive the call, and the
+        // one lent for writing overlaps no other.
+        unsafe {
+            c::cellplan_read_cell(file.as_ptr(), file.len(), record.as_mut_ptr(), record.len())
+        }
+    }
+
+    fn reading(file: &[u8], record: &mut [u8]) -> Refusal {
+        let reading = read_cell(file);
+        record.copy_from_slice(&cell_bytes(&reading.record));
+        reading.refusal
+    }
+}
+
+/// The recipe file.
+pub struct RecipeFile;
+
+impl Format for RecipeFile {
+    const NAMES: &'static [u8] = RECIPE_NAMES;
+    const GREATEST: &'static [u32] = &[15, 2, 63, 255, 255, 15, 15];
+    const REFUSALS: &'static [u8] = &[1, 2, 3, 4, 7, 8, 9, 10, 11, 12];
+    const RECORD_BYTES: usize = RECIPE_BYTES;
+
+    fn library(file: &[u8], record: &mut [u8]) -> u64 {
+        // SAFETY: as for the cell file.
+        unsafe {
+            c::cellplan_read_recipe(file.as_ptr(), file.len(), record.as_mut_ptr(), record.len())
+        }
+    }
+
+    fn reading(file: &[u8], record: &mut [u8]) -> Refusal {
+        let reading = read_recipe(file);
+        record.copy_from_slice(&recipe_bytes(&reading.record));
+        reading.refusal
+    }
+}

@@ -1,0 +1,318 @@
+//! The cell file: the lines of each resource's state diagram.
+
+use crate::table::{read_columns, try_count, try_lines, Columns, Reading, Refusal, MOST_LINES};
+
+/// The names line with its byte 10.
+pub const CELL_NAMES: &[u8] = b"resource,from,act,arg,to\n";
+
+/// The length of a cell record in bytes.
+pub const CELL_BYTES: usize = 1 + 5 * MOST_LINES;
+
+/// The top of each column's range.
+const GREATEST: [u8; 5] = [5, 7, 3, 63, 7];
+
+const IN: u8 = 2;
+const OUT: u8 = 3;
+
+/// The value lines of a cell file, an array for each column. What stands past `count` lines counts
+/// for nothing.
+#[derive(Clone, Debug, PartialEq, Eq)]
+pub struct Cell {
+    pub count: u8,
+    pub resource: [u8; MOST_LINES],
+    pub from: [u8; MOST_LINES],
+    pub act: [u8; MOST_LINES],
+    pub arg: [u8; MOST_LINES],
+    pub to: [u8; MOST_LINES],
+}
+
+/// The answer of `read_cell`.
+pub type CellReading = Reading<Cell>;
+
+impl Cell {
+    /// The record of no lines.
+    pub const EMPTY: Cell = Cell {
+        count: 0,
+        resource: [0; MOST_LINES],
+        from: [0; MOST_LINES],
+        act: [0; MOST_LINES],
+        arg: [0; MOST_LINES],
+        to: [0; MOST_LINES],
+    };
+
+    /// Line `n` in the order of the columns.
+    fn line(&self, n: usize) -> [u8; 5] {
+        [
+            self.resource[n],
+            self.from[n],
+            self.act[n],
+            self.arg[n],
+            self.to[n],
+        ]
+    }
+}
+
+/// Reads a cell file by the rules 1 to 6.
+pub fn read_cell(file: &[u8]) -> CellReading {
+    match read(file) {
+        Ok(record) => Reading {
+            refusal: Refusal::NONE,
+            record,
+        },
+        Err(refusal) => Reading {
+            refusal,
+            record: Cell::EMPTY,
+        },
+    }
+}
+
+fn read(file: &[u8]) -> Result<Cell, Refusal> {
+    let Columns { count, columns } = read_columns(file, CELL_NAMES, GREATEST)?;
+    let [resource, from, act, arg, to] = columns;
+    let cell = Cell {
+        count,
+        resource,
+        from,
+        act,
+        arg,
+        to,
+    };
+    try_stations(&cell)?;
+    Ok(cell)
+}
+
+/// The first of the rules 3 to 6 that a record breaks.
+pub fn check_cell(cell: &Cell) -> Refusal {
+    check(cell).err().unwrap_or(Refusal::NONE)
+}
+
+fn check(cell: &Cell) -> Result<(), Refusal> {
+    let count = usize::from(cell.count);
+    try_count(count)?;
+    try_lines(4, count, |n| {
+        cell.line(n).iter().zip(GREATEST).any(|(&x, most)| x > most)
+    })?;
+    try_stations(cell)
+}
+
+/// Rules 5 and 6, for a record that passes the rules 3 and 4.
+fn try_stations(cell: &Cell) -> Result<(), Refusal> {
+    let count = usize::from(cell.count);
+    let resources = &cell.resource[..count];
+    let greatest = resources.iter().copied().max().unwrap_or(0);
+    if (0..greatest).any(|resource| !resources.contains(&resource)) {
+        return Err(Refusal::of_whole(5));
+    }
+
+    // For each port, the set of resources that have an in there and the set that have an out: bit k
+    // stands for resource k.
+    let mut ins = [0u8; 64];
+    let mut outs = [0u8; 64];
+    for n in 0..count {
+        let port = usize::from(cell.arg[n]);
+        match cell.act[n] {
+            IN => ins[port] |= 1 << cell.resource[n],
+            OUT => outs[port] |= 1 << cell.resource[n],
+            _ => {}
+        }
+    }
+    try_lines(6, count, |n| {
+        let port = usize::from(cell.arg[n]);
+        let others = !(1 << cell.resource[n]);
+        match cell.act[n] {
+            IN => outs[port] & others == 0,
+            OUT => ins[port] & others == 0,
+            _ => false,
+        }
+    })
+}
+
+/// The record as bytes: the line count, then 64 times `resource, from, act, arg, to`.
+pub fn cell_bytes(cell: &Cell) -> [u8; CELL_BYTES] {
+    let mut bytes = [0; CELL_BYTES];
+    bytes[0] = cell.count;
+    for (n, line) in bytes[1..].chunks_exact_mut(5).enumerate() {
+        line.copy_from_slice(&cell.line(n));
+    }
+    bytes
+}
+
+#[cfg(test)]
+mod tests {
+    use super::*;
+    use crate::table::tests::file_of;
+
+    const BENCH: [&str; 5] = [
+        "0,0,1,1,1",
+        "0,1,3,5,0",
+        "1,0,2,5,1",
+        "1,1,1,2,2",
+        "1,2,1,3,0",
+    ];
+
+    fn file(lines: &[&str]) -> Vec<u8> {
+        file_of(CELL_NAMES, lines)
+    }
+
+    /// Refusal number and line; a refused file's record must be empty.
+    fn refusal(file: &[u8]) -> (u8, usize) {
+        let reading = read_cell(file);
+        if reading.refusal != Refusal::NONE {
+            assert_eq!(reading.record, Cell::EMPTY);
+        }
+        (reading.refusal.number, reading.refusal.line)
+    }
+
+    fn refusal_of_lines(lines: &[&str]) -> (u8, usize) {
+        refusal(&file(lines))
+    }
+
+    fn bench_record() -> Cell {
+        read_cell(&file(&BENCH)).record
+    }
+
+    #[test]
+    fn the_bench_cell_is_accepted() {
+        let reading = read_cell(&file(&BENCH));
+        assert_eq!(reading.refusal, Refusal::NONE);
+        let cell = reading.record;
+        assert_eq!(cell.count, 5);
+        assert_eq!(cell.resource[..6], [0, 0, 1, 1, 1, 0]);
+        assert_eq!(cell.from[..6], [0, 1, 0, 1, 2, 0]);
+        assert_eq!(cell.act[..6], [1, 3, 2, 1, 1, 0]);
+        assert_eq!(cell.arg[..6], [1, 5, 5, 2, 3, 0]);
+        assert_eq!(cell.to[..6], [1, 0, 1, 2, 0, 0]);
+        assert_eq!(check_cell(&cell), Refusal::NONE);
+    }
+
+    #[test]
+    fn bytes_are_the_count_and_then_line_after_line() {
+        let bytes = cell_bytes(&bench_record());
+        assert_eq!(bytes[..11], [5, 0, 0, 1, 1, 1, 0, 1, 3, 5, 0]);
+        assert_eq!(bytes[21..27], [1, 2, 1, 3, 0, 0]);
+        assert!(bytes[26..].iter().all(|&byte| byte == 0));
+        assert_eq!(cell_bytes(&Cell::EMPTY), [0; CELL_BYTES]);
+    }
+
+    #[test]
+    fn rule_1_wants_the_names_line_exactly() {
+        for names in [
+            "",
+            "\n",
+            "resource,from,act,arg,to",
+            "resource,from,act,arg,to\r\n",
+            "resource,from,act,arg, to\n",
+            "Resource,from,act,arg,to\n",
+            "point,kind,op,takes,gives,then,else\n",
+        ] {
+            assert_eq!(refusal(names.as_bytes()), (1, 1), "{names:?}");
+        }
+    }
+
+    #[test]
+    fn rule_2_names_the_first_line_of_another_form() {
+        assert_eq!(refusal_of_lines(&["0,0,1,1"]), (2, 2));
+        assert_eq!(refusal_of_lines(&["0,0,1,1,1,1"]), (2, 2));
+        assert_eq!(refusal_of_lines(&["0,0,1,1,1", "", "x"]), (2, 3));
+        assert_eq!(refusal_of_lines(&["0,0,1,01,1"]), (2, 2));
+        assert_eq!(refusal_of_lines(&["0,0,1,100000,1"]), (2, 2));
+    }
+
+    #[test]
+    fn rule_2_wants_byte_10_after_the_last_line() {
+        let mut bench = file(&BENCH);
+        bench.pop();
+        assert_eq!(refusal(&bench), (2, 6));
+        bench.extend_from_slice(b"\n0");
+        assert_eq!(refusal(&bench), (2, 7));
+    }
+
+    #[test]
+    fn rule_2_is_tried_past_line_64_and_before_rule_3() {
+        let mut lines = vec!["0,0,1,1,1"; 300];
+        assert_eq!(refusal_of_lines(&lines), (3, 0));
+        lines[299] = "0,0,1,1,";
+        assert_eq!(refusal_of_lines(&lines), (2, 301));
+    }
+
+    #[test]
+    fn rule_3_wants_1_to_64_lines() {
+        assert_eq!(refusal_of_lines(&[]), (3, 0));
+        assert_eq!(refusal_of_lines(&["0,0,1,1,1"]), (0, 0));
+        assert_eq!(refusal_of_lines(&["0,0,1,1,1"; 64]), (0, 0));
+        assert_eq!(refusal_of_lines(&["0,0,1,1,1"; 65]), (3, 0));
+        assert_eq!(refusal_of_lines(&["9,0,1,1,1"; 65]), (3, 0));
+    }
+
+    #[test]
+    fn rule_4_is_judged_on_the_number_as_written() {
+        assert_eq!(refusal_of_lines(&["0,7,1,63,7"]), (0, 0));
+        for bad in [
+            "6,0,1,1,1",
+            "0,8,1,1,1",
+            "0,0,4,1,1",
+            "0,0,1,64,1",
+            "0,0,1,1,8",
+            "256,0,1,1,1",
+            "0,0,1,256,1",
+            "0,0,1,65536,1",
+            "0,0,1,99999,1",
+        ] {
+            assert_eq!(refusal_of_lines(&["0,0,1,1,1", bad]), (4, 3), "{bad}");
+        }
+        assert_eq!(refusal_of_lines(&["8,0,1,1,1", "0,0,1"]), (2, 3));
+    }
+
+    #[test]
+    fn rule_5_wants_a_line_for_each_resource_below_the_greatest() {
+        assert_eq!(refusal_of_lines(&["1,0,1,1,1"]), (5, 0));
+        assert_eq!(refusal_of_lines(&["0,0,1,1,1", "2,0,1,1,1"]), (5, 0));
+        assert_eq!(
+            refusal_of_lines(&["2,0,1,1,1", "1,0,1,1,1", "0,0,1,1,1"]),
+            (0, 0)
+        );
+        assert_eq!(refusal_of_lines(&["1,0,1,1,1", "1,0,2,1,1"]), (5, 0));
+    }
+
+    #[test]
+    fn rule_6_names_the_first_line_without_a_partner() {
+        let mut lines = BENCH;
+        lines[2] = "1,0,2,6,1";
+        assert_eq!(refusal_of_lines(&lines), (6, 3));
+        // The out now has its partner in another line, and only the moved in has none.
+        assert_eq!(
+            refusal_of_lines(&["0,1,3,5,0", "1,0,2,6,1", "1,0,2,5,1"]),
+            (6, 3)
+        );
+    }
+
+    #[test]
+    fn rule_6_wants_another_resource_and_the_other_act() {
+        assert_eq!(refusal_of_lines(&["0,0,2,5,0", "0,0,3,5,0"]), (6, 2));
+        assert_eq!(refusal_of_lines(&["0,0,2,5,0", "1,0,2,5,0"]), (6, 2));
+        assert_eq!(refusal_of_lines(&["0,0,0,5,0", "1,0,2,5,0"]), (6, 3));
+        assert_eq!(
+            refusal_of_lines(&["0,0,2,5,0", "0,0,3,5,0", "1,0,3,5,0"]),
+            (6, 3)
+        );
+        assert_eq!(refusal_of_lines(&["0,0,2,5,0", "1,0,3,5,0"]), (0, 0));
+    }
+
+    #[test]
+    fn a_record_handed_in_is_judged_by_its_lines_alone() {
+        let mut cell = bench_record();
+        cell.resource[5] = 9;
+        cell.act[63] = 2;
+        assert_eq!(check_cell(&cell), Refusal::NONE);
+        cell.count = 6;
+        assert_eq!(check_cell(&cell), Refusal { number: 4, line: 7 });
+        cell.count = 65;
+        assert_eq!(check_cell(&cell), Refusal { number: 3, line: 0 });
+        cell.count = 0;
+        assert_eq!(check_cell(&cell), Refusal { number: 3, line: 0 });
+        cell.count = 2;
+        assert_eq!(check_cell(&cell), Refusal { number: 6, line: 3 });
+        cell.resource[1] = 2;
+        assert_eq!(check_cell(&cell), Refusal { number: 5, line: 0 });
+    }
+}
