@@ -46,9 +46,12 @@ pub record EachAccepts (c : Cell) : Type 0 where
 pub each-accepts : (c : Cell) → checkCell c ≡ Accepted → EachAccepts c
 unfolding checkCell
 each-accepts c e =
-    let from4 = next-accepts _ _ e in
-    let from5 = next-accepts _ _ from4 in
-    record { third = first-accepts _ _ e; fourth = first-accepts _ _ from4; fifth = first-accepts _ _ from5; sixth = next-accepts _ _ from5 }
+    record {
+      third = search first-accepts;
+      fourth = search (first-accepts, next-accepts);
+      fifth = search (first-accepts, next-accepts);
+      sixth = search next-accepts;
+    }
 
 -- a reader's record has at most 64 lines, refused or not
 pub read-few : (file : List ℕ) → readCell file .cell .count ≤ 64

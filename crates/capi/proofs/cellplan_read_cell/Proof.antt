@@ -17,13 +17,20 @@ cast-result : tie.Need-cast-result
 cast-result c = search needs
 
 returns : tie.Need-returns
-returns c = too-short _ _ 321 (c .before .before .before .before .args .buffer .now) (c .number .result) (c .before .if1 .taken) (c .number .ensures)
+returns c =
+    let start = c .before .before .before .before in
+    too-short _ _ 321 (start .args .buffer .now) (c .number .result) (c .before .if1 .taken) (c .number .ensures)
 
 read-cell-requires : tie.Need-read-cell-requires
 read-cell-requires c κs = search needs
 
 put-cell-requires : tie.Need-put-cell-requires
-put-cell-requires c κs = let few : c .before .before .read-cell .result .cell .count ≤ 64 = subst (λ (r : CellReading). r .cell .count ≤ 64) (sym (c .before .before .read-cell .ensures)) (read-few (c .before .before .before .before .before .before .args .file .now)) in (few, c .before .before .before .if1 .left)
+put-cell-requires c κs =
+    let at-read-cell = c .before .before in
+    let at-if1 = at-read-cell .before in
+    let start = at-if1 .before .before .before in
+    let few : at-read-cell .read-cell .result .cell .count ≤ 64 = subst (λ (r : CellReading). r .cell .count ≤ 64) (sym (at-read-cell .read-cell .ensures)) (read-few (start .args .file .now)) in
+    (few, at-if1 .if1 .left)
 
 code-requires : tie.Need-code-requires
 code-requires c κs = search needs
@@ -32,7 +39,12 @@ same-length : tie.Need-same-length
 same-length c = search needs
 
 returns-2 : tie.Need-returns-2
-returns-2 c = answered _ _ 321 (c .before .before .before .before .before .before .before .before .before .before .args .buffer .now) (c .before .before .before .put-cell .last .1 .0) (c .code .result) (c .before .before .before .before .before .before .before .if1 .left) (c .code .ensures ∙ ap (λ (r : CellReading). codeOf (r .verdict)) (c .before .before .before .before .before .before .read-cell .ensures)) (c .before .before .before .put-cell .ensures ∙ ap (λ (r : CellReading). cellBytes (r .cell) ++ drop 321 (c .before .before .before .before .before .before .before .before .before .before .args .buffer .now)) (c .before .before .before .before .before .before .read-cell .ensures))
+returns-2 c =
+    let at-put-cell = c .before .before .before in
+    let at-read-cell = at-put-cell .before .before .before in
+    let at-if1 = at-read-cell .before in
+    let start = at-if1 .before .before .before in
+    answered _ _ 321 (start .args .buffer .now) (at-put-cell .put-cell .last .1 .0) (c .code .result) (at-if1 .if1 .left) (c .code .ensures ∙ ap (λ (r : CellReading). codeOf (r .verdict)) (at-read-cell .read-cell .ensures)) (at-put-cell .put-cell .ensures ∙ ap (λ (r : CellReading). cellBytes (r .cell) ++ drop 321 (start .args .buffer .now)) (at-read-cell .read-cell .ensures))
 
 pub cellplan-read-cell-spec : {M : Type 1} → statement M
 cellplan-read-cell-spec =

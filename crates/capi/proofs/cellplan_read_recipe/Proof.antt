@@ -17,13 +17,20 @@ cast-result : tie.Need-cast-result
 cast-result c = search needs
 
 returns : tie.Need-returns
-returns c = too-short _ _ 449 (c .before .before .before .before .args .buffer .now) (c .number .result) (c .before .if1 .taken) (c .number .ensures)
+returns c =
+    let start = c .before .before .before .before in
+    too-short _ _ 449 (start .args .buffer .now) (c .number .result) (c .before .if1 .taken) (c .number .ensures)
 
 read-recipe-requires : tie.Need-read-recipe-requires
 read-recipe-requires c κs = search needs
 
 put-recipe-requires : tie.Need-put-recipe-requires
-put-recipe-requires c κs = let few : c .before .before .read-recipe .result .recipe .count ≤ 64 = subst (λ (r : RecipeReading). r .recipe .count ≤ 64) (sym (c .before .before .read-recipe .ensures)) (read-few (c .before .before .before .before .before .before .args .file .now)) in (few, c .before .before .before .if1 .left)
+put-recipe-requires c κs =
+    let at-read-recipe = c .before .before in
+    let at-if1 = at-read-recipe .before in
+    let start = at-if1 .before .before .before in
+    let few : at-read-recipe .read-recipe .result .recipe .count ≤ 64 = subst (λ (r : RecipeReading). r .recipe .count ≤ 64) (sym (at-read-recipe .read-recipe .ensures)) (read-few (start .args .file .now)) in
+    (few, at-if1 .if1 .left)
 
 code-requires : tie.Need-code-requires
 code-requires c κs = search needs
@@ -32,7 +39,12 @@ same-length : tie.Need-same-length
 same-length c = search needs
 
 returns-2 : tie.Need-returns-2
-returns-2 c = answered _ _ 449 (c .before .before .before .before .before .before .before .before .before .before .args .buffer .now) (c .before .before .before .put-recipe .last .1 .0) (c .code .result) (c .before .before .before .before .before .before .before .if1 .left) (c .code .ensures ∙ ap (λ (r : RecipeReading). codeOf (r .verdict)) (c .before .before .before .before .before .before .read-recipe .ensures)) (c .before .before .before .put-recipe .ensures ∙ ap (λ (r : RecipeReading). recipeBytes (r .recipe) ++ drop 449 (c .before .before .before .before .before .before .before .before .before .before .args .buffer .now)) (c .before .before .before .before .before .before .read-recipe .ensures))
+returns-2 c =
+    let at-put-recipe = c .before .before .before in
+    let at-read-recipe = at-put-recipe .before .before .before in
+    let at-if1 = at-read-recipe .before in
+    let start = at-if1 .before .before .before in
+    answered _ _ 449 (start .args .buffer .now) (at-put-recipe .put-recipe .last .1 .0) (c .code .result) (at-if1 .if1 .left) (c .code .ensures ∙ ap (λ (r : RecipeReading). codeOf (r .verdict)) (at-read-recipe .read-recipe .ensures)) (at-put-recipe .put-recipe .ensures ∙ ap (λ (r : RecipeReading). recipeBytes (r .recipe) ++ drop 449 (start .args .buffer .now)) (at-read-recipe .read-recipe .ensures))
 
 pub cellplan-read-recipe-spec : {M : Type 1} → statement M
 cellplan-read-recipe-spec =

@@ -29,7 +29,9 @@ returns c = sym (ap codeOf (c .enum-told .given .1))
 
 returns-2 : tie.Need-returns-2
 unfolding codeOf
-returns-2 c = ap (λ n. n + 256 * (c .before .before .verdict .given .0 .1 .0 % 72057594037927936)) (c .number .ensures) ∙ sym (ap codeOf (c .before .before .verdict .given .1))
+returns-2 c =
+    let at-verdict = c .before .before in
+    ap (λ n. n + 256 * (at-verdict .verdict .given .0 .1 .0 % 72057594037927936)) (c .number .ensures) ∙ sym (ap codeOf (at-verdict .verdict .given .1))
 
 pub code-spec : {M : Type 1} → statement M
 code-spec =

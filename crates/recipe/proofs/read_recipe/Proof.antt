@@ -29,7 +29,12 @@ enum-known-n : tie.Need-enum-known-n
 enum-known-n c = search needs
 
 add-refused : tie.Need-add-refused
-add-refused c = let f = c .before .before .before .before .before .before .before .before .args .file .now in let b = broken 7 f (c .before .n .given .0 .0) (sym (c .before .n .given .1) ∙ c .before .before .before .check-lines .ensures) in omega (arith, b .1, broken-few 7 f)
+add-refused c =
+    let at-check-lines = c .before .before .before in
+    let start = at-check-lines .before .before .before .before .before in
+    let f = start .args .file .now in
+    let b = broken 7 f (c .before .n .given .0 .0) (sym (c .before .n .given .1) ∙ at-check-lines .check-lines .ensures) in
+    omega (arith, b .1, broken-few 7 f)
 
 refused-requires-2 : tie.Need-refused-requires-2
 refused-requires-2 c κs = tt
@@ -38,15 +43,32 @@ enum-known-count : tie.Need-enum-known-count
 enum-known-count c = search needs
 
 read-lines-requires : tie.Need-read-lines-requires
-read-lines-requires c κs = whole 7 (c .before .before .before .before .before .before .before .before .args .file .now) (c .before .count .given .0 .0) (sym (c .before .count .given .1) ∙ c .before .before .before .check-lines .ensures)
+read-lines-requires c κs =
+    let at-check-lines = c .before .before .before in
+    let start = at-check-lines .before .before .before .before .before in
+    whole 7 (start .args .file .now) (c .before .count .given .0 .0) (sym (c .before .count .given .1) ∙ at-check-lines .check-lines .ensures)
 
 returns-2 : tie.Need-returns-2
 unfolding before rule1 rule2 recipeNames judgeRecipe reading readRecipe
-returns-2 c = let b = broken 7 (c .before .before .before .before .before .before .before .before .before .args .file .now) (c .before .before .n .given .0 .0) (sym (c .before .before .n .given .1) ∙ c .before .before .before .before .check-lines .ensures) in c .refused2 .ensures ∙ rw (sym (c .before .before .before .before .before .before .has-names .ensures) ∙ not-false _ (c .before .before .before .before .before .if1 .left), b .0, b .1)
+returns-2 c =
+    let at-n = c .before .before in
+    let at-check-lines = at-n .before .before in
+    let at-if1 = at-check-lines .before in
+    let at-has-names = at-if1 .before in
+    let start = at-has-names .before .before .before in
+    let b = broken 7 (start .args .file .now) (at-n .n .given .0 .0) (sym (at-n .n .given .1) ∙ at-check-lines .check-lines .ensures) in
+    c .refused2 .ensures ∙ rw (sym (at-has-names .has-names .ensures) ∙ not-false _ (at-if1 .if1 .left), b .0, b .1)
 
 returns-3 : tie.Need-returns-3
 unfolding before rule1 rule2 recipeNames judgeRecipe reading readRecipe
-returns-3 c = let b = whole 7 (c .before .before .before .before .before .before .before .before .before .args .file .now) (c .before .before .count .given .0 .0) (sym (c .before .before .count .given .1) ∙ c .before .before .before .before .check-lines .ensures) in c .read-lines .ensures ∙ rw (sym (c .before .before .before .before .before .before .has-names .ensures) ∙ not-false _ (c .before .before .before .before .before .if1 .left), b .0)
+returns-3 c =
+    let at-count = c .before .before in
+    let at-check-lines = at-count .before .before in
+    let at-if1 = at-check-lines .before in
+    let at-has-names = at-if1 .before in
+    let start = at-has-names .before .before .before in
+    let b = whole 7 (start .args .file .now) (at-count .count .given .0 .0) (sym (at-count .count .given .1) ∙ at-check-lines .check-lines .ensures) in
+    c .read-lines .ensures ∙ rw (sym (at-has-names .has-names .ensures) ∙ not-false _ (at-if1 .if1 .left), b .0)
 
 pub read-recipe-spec : {M : Type 1} → statement M
 read-recipe-spec =

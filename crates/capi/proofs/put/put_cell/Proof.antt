@@ -21,7 +21,11 @@ slice-write-buffer : tie.Need-slice-write-buffer Inv-loop μ-loop
 slice-write-buffer c = omega arith
 
 loop-holds : tie.Need-loop-holds Inv-loop μ-loop
-loop-holds c = let e = c .before .before .before .before .before .before .args .buffer .now in let n = c .before .before .before .before .before .before .args .cell .count in (omega arith, simp length-set (c .before .before .before .before .before .before .pre .1), put-none (cellRow (c .before .before .before .before .before .before .args .cell)) 5 n e (omega arith))
+loop-holds c =
+    let start = c .before .before .before .before .before .before in
+    let e = start .args .buffer .now in
+    let n = start .args .cell .count in
+    (omega arith, simp length-set (start .pre .1), put-none (cellRow (start .args .cell)) 5 n e (omega arith))
 
 array-read-put-five : tie.Need-array-read-put-five Inv-loop μ-loop
 array-read-put-five c = omega arith
@@ -52,14 +56,25 @@ loop-less c = omega arith
 
 loop-again : tie.Need-loop-again Inv-loop μ-loop
 unfolding cellRow
-loop-again c = let l = c .before .before .before .before .before .loop in let x = c .before .before .before .before .before .before .before .before .before .before .before .before .args .cell in let old = set (c .before .before .before .before .before .before .before .before .before .before .before .before .args .buffer .now) 0 (x .count) in (omega arith, l .inv .1, rw (c .before .before .put-five .ensures) (put-more (cellRow x) 5 (λ n. refl) (x .count) old (l .i) (l .at) (l .buffer) (l .inv .2) (omega (arith, l .inv .2 .at-is))))
+loop-again c =
+    let at-put-five = c .before .before in
+    let head = at-put-five .before .before .before in
+    let start = head .before .before .before .before .before .before .before in
+    let l = head .loop in
+    let x = start .args .cell in
+    let old = set (start .args .buffer .now) 0 (x .count) in
+    (omega arith, l .inv .1, rw (at-put-five .put-five .ensures) (put-more (cellRow x) 5 (λ n. refl) (x .count) old (l .i) (l .at) (l .buffer) (l .inv .2) (omega (arith, l .inv .2 .at-is))))
 
 same-length : tie.Need-same-length Inv-loop μ-loop
 same-length c = c .before .loop .inv .2 .size ∙ simp length-set
 
 returns : tie.Need-returns Inv-loop μ-loop
 unfolding cellBytes
-returns c = let l = c .before .loop in let x = c .before .before .before .before .before .before .before .before .args .cell in put-all (cellRow x) 5 (x .count) (c .before .before .before .before .before .before .before .before .args .buffer .now) (l .i) (l .at) 321 (l .buffer) (l .inv .2) (omega arith) refl
+returns c =
+    let start = c .before .before .before .before .before .before .before .before in
+    let l = c .before .loop in
+    let x = start .args .cell in
+    put-all (cellRow x) 5 (x .count) (start .args .buffer .now) (l .i) (l .at) 321 (l .buffer) (l .inv .2) (omega arith) refl
 
 pub put-cell-spec : {M : Type 1} → statement M
 put-cell-spec =

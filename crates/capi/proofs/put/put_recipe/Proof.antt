@@ -20,7 +20,11 @@ slice-write-buffer : tie.Need-slice-write-buffer Inv-loop μ-loop
 slice-write-buffer c = omega arith
 
 loop-holds : tie.Need-loop-holds Inv-loop μ-loop
-loop-holds c = let e = c .before .before .before .before .before .before .before .before .args .buffer .now in let n = c .before .before .before .before .before .before .before .before .args .recipe .count in (omega arith, simp length-set (c .before .before .before .before .before .before .before .before .pre .1), put-none (recipeRow (c .before .before .before .before .before .before .before .before .args .recipe)) 7 n e (omega arith))
+loop-holds c =
+    let start = c .before .before .before .before .before .before .before .before in
+    let e = start .args .buffer .now in
+    let n = start .args .recipe .count in
+    (omega arith, simp length-set (start .pre .1), put-none (recipeRow (start .args .recipe)) 7 n e (omega arith))
 
 array-read-put-seven : tie.Need-array-read-put-seven Inv-loop μ-loop
 array-read-put-seven c = omega arith
@@ -57,14 +61,25 @@ loop-less c = omega arith
 
 loop-again : tie.Need-loop-again Inv-loop μ-loop
 unfolding recipeRow
-loop-again c = let l = c .before .before .before .before .before .loop in let x = c .before .before .before .before .before .before .before .before .before .before .before .before .before .before .args .recipe in let old = set (c .before .before .before .before .before .before .before .before .before .before .before .before .before .before .args .buffer .now) 0 (x .count) in (omega arith, l .inv .1, rw (c .before .before .put-seven .ensures) (put-more (recipeRow x) 7 (λ n. refl) (x .count) old (l .i) (l .at) (l .buffer) (l .inv .2) (omega (arith, l .inv .2 .at-is))))
+loop-again c =
+    let at-put-seven = c .before .before in
+    let head = at-put-seven .before .before .before in
+    let start = head .before .before .before .before .before .before .before .before .before in
+    let l = head .loop in
+    let x = start .args .recipe in
+    let old = set (start .args .buffer .now) 0 (x .count) in
+    (omega arith, l .inv .1, rw (at-put-seven .put-seven .ensures) (put-more (recipeRow x) 7 (λ n. refl) (x .count) old (l .i) (l .at) (l .buffer) (l .inv .2) (omega (arith, l .inv .2 .at-is))))
 
 same-length : tie.Need-same-length Inv-loop μ-loop
 same-length c = c .before .loop .inv .2 .size ∙ simp length-set
 
 returns : tie.Need-returns Inv-loop μ-loop
 unfolding recipeBytes
-returns c = let l = c .before .loop in let x = c .before .before .before .before .before .before .before .before .before .before .args .recipe in put-all (recipeRow x) 7 (x .count) (c .before .before .before .before .before .before .before .before .before .before .args .buffer .now) (l .i) (l .at) 449 (l .buffer) (l .inv .2) (omega arith) refl
+returns c =
+    let start = c .before .before .before .before .before .before .before .before .before .before in
+    let l = c .before .loop in
+    let x = start .args .recipe in
+    put-all (recipeRow x) 7 (x .count) (start .args .buffer .now) (l .i) (l .at) 449 (l .buffer) (l .inv .2) (omega arith) refl
 
 pub put-recipe-spec : {M : Type 1} → statement M
 put-recipe-spec =

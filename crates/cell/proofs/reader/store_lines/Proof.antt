@@ -62,13 +62,31 @@ refused-requires : tie.Need-refused-requires Inv-loop μ-loop
 refused-requires c κs = omega arith
 
 returns : tie.Need-returns Inv-loop μ-loop
-returns c = let f = c .before .before .before .before .before .before .before .before .before .before .args .file .now in let n = c .before .before .before .before .before .before .before .before .before .before .args .count in let l = c .before .before .before .before .before .before .before .loop in let L = c .before .before .before .before .read-line .result in let e : L ≡ lineOf 5 (drop (l .at) f) = c .before .before .before .before .read-line .ensures ∙ ap (lineOf 5) (rest f (l .at)) in let P : Passed 5 f n = passed 5 f n (c .before .before .before .before .before .before .before .before .before .before .pre .0) (c .before .before .before .before .before .before .before .before .before .before .pre .1) in let W : ValueLine 5 f (l .i) (l .at) L = value-line 5 f n (l .i) (l .at) L (omega arith) P (c .before .before .before .before .before .before .loop-test .taken) (l .inv .1 .stands) e in let v = before (rule5 (cellOf f)) (rule6 (cellOf f)) in c .refused .ensures ∙ stored-out f (l .i) (l .at) (l .resource) (l .from) (l .act) (l .arg) (l .to) (l .inv .1) (omega arith) L W (c .before .before .in-range .result) (c .before .before .in-range .ensures) v (omega arith) (c .before .if1 .taken)
+returns c =
+    let at-in-range = c .before .before in
+    let at-read-line = at-in-range .before .before in
+    let at-loop-test = at-read-line .before .before in
+    let head = at-loop-test .before in
+    let start = head .before .before .before in
+    let f = start .args .file .now in
+    let n = start .args .count in
+    let l = head .loop in
+    let L = at-read-line .read-line .result in
+    let e : L ≡ lineOf 5 (drop (l .at) f) = at-read-line .read-line .ensures ∙ ap (lineOf 5) (rest f (l .at)) in
+    let P : Passed 5 f n = passed 5 f n (start .pre .0) (start .pre .1) in
+    let W : ValueLine 5 f (l .i) (l .at) L = value-line 5 f n (l .i) (l .at) L (omega arith) P (at-loop-test .loop-test .taken) (l .inv .1 .stands) e in
+    let v = before (rule5 (cellOf f)) (rule6 (cellOf f)) in
+    c .refused .ensures ∙ stored-out f (l .i) (l .at) (l .resource) (l .from) (l .act) (l .arg) (l .to) (l .inv .1) (omega arith) L W (at-in-range .in-range .result) (at-in-range .in-range .ensures) v (omega arith) (c .before .if1 .taken)
 
 array-read-resource : tie.Need-array-read-resource Inv-loop μ-loop
 array-read-resource c = omega arith
 
 cast-resource : tie.Need-cast-resource Inv-loop μ-loop
-cast-resource c = let L = c .before .before .before .read-line .result in let B = bytes _ _ _ _ _ (sym (c .before .in-range .ensures) ∙ not-false _ (c .if1 .left)) in omega (arith, B .resource)
+cast-resource c =
+    let at-read-line = c .before .before .before in
+    let L = at-read-line .read-line .result in
+    let B = bytes _ _ _ _ _ (sym (c .before .in-range .ensures) ∙ not-false _ (c .if1 .left)) in
+    omega (arith, B .resource)
 
 array-write-resource : tie.Need-array-write-resource Inv-loop μ-loop
 array-write-resource c = omega arith
@@ -77,7 +95,11 @@ array-read-from : tie.Need-array-read-from Inv-loop μ-loop
 array-read-from c = omega arith
 
 cast-from : tie.Need-cast-from Inv-loop μ-loop
-cast-from c = let L = c .before .before .before .read-line .result in let B = bytes _ _ _ _ _ (sym (c .before .in-range .ensures) ∙ not-false _ (c .if1 .left)) in omega (arith, B .from)
+cast-from c =
+    let at-read-line = c .before .before .before in
+    let L = at-read-line .read-line .result in
+    let B = bytes _ _ _ _ _ (sym (c .before .in-range .ensures) ∙ not-false _ (c .if1 .left)) in
+    omega (arith, B .from)
 
 array-write-from : tie.Need-array-write-from Inv-loop μ-loop
 array-write-from c = omega arith
@@ -86,7 +108,11 @@ array-read-act : tie.Need-array-read-act Inv-loop μ-loop
 array-read-act c = omega arith
 
 cast-act : tie.Need-cast-act Inv-loop μ-loop
-cast-act c = let L = c .before .before .before .read-line .result in let B = bytes _ _ _ _ _ (sym (c .before .in-range .ensures) ∙ not-false _ (c .if1 .left)) in omega (arith, B .act)
+cast-act c =
+    let at-read-line = c .before .before .before in
+    let L = at-read-line .read-line .result in
+    let B = bytes _ _ _ _ _ (sym (c .before .in-range .ensures) ∙ not-false _ (c .if1 .left)) in
+    omega (arith, B .act)
 
 array-write-act : tie.Need-array-write-act Inv-loop μ-loop
 array-write-act c = omega arith
@@ -95,7 +121,11 @@ array-read-arg : tie.Need-array-read-arg Inv-loop μ-loop
 array-read-arg c = omega arith
 
 cast-arg : tie.Need-cast-arg Inv-loop μ-loop
-cast-arg c = let L = c .before .before .before .read-line .result in let B = bytes _ _ _ _ _ (sym (c .before .in-range .ensures) ∙ not-false _ (c .if1 .left)) in omega (arith, B .arg)
+cast-arg c =
+    let at-read-line = c .before .before .before in
+    let L = at-read-line .read-line .result in
+    let B = bytes _ _ _ _ _ (sym (c .before .in-range .ensures) ∙ not-false _ (c .if1 .left)) in
+    omega (arith, B .arg)
 
 array-write-arg : tie.Need-array-write-arg Inv-loop μ-loop
 array-write-arg c = omega arith
@@ -104,13 +134,30 @@ array-read-to : tie.Need-array-read-to Inv-loop μ-loop
 array-read-to c = omega arith
 
 cast-to : tie.Need-cast-to Inv-loop μ-loop
-cast-to c = let L = c .before .before .before .read-line .result in let B = bytes _ _ _ _ _ (sym (c .before .in-range .ensures) ∙ not-false _ (c .if1 .left)) in omega (arith, B .to)
+cast-to c =
+    let at-read-line = c .before .before .before in
+    let L = at-read-line .read-line .result in
+    let B = bytes _ _ _ _ _ (sym (c .before .in-range .ensures) ∙ not-false _ (c .if1 .left)) in
+    omega (arith, B .to)
 
 array-write-to : tie.Need-array-write-to Inv-loop μ-loop
 array-write-to c = omega arith
 
 add-at : tie.Need-add-at Inv-loop μ-loop
-add-at c = let f = c .before .before .before .before .before .before .before .before .before .before .args .file .now in let n = c .before .before .before .before .before .before .before .before .before .before .args .count in let l = c .before .before .before .before .before .before .before .loop in let L = c .before .before .before .before .read-line .result in let e : L ≡ lineOf 5 (drop (l .at) f) = c .before .before .before .before .read-line .ensures ∙ ap (lineOf 5) (rest f (l .at)) in let P : Passed 5 f n = passed 5 f n (c .before .before .before .before .before .before .before .before .before .before .pre .0) (c .before .before .before .before .before .before .before .before .before .before .pre .1) in let W : ValueLine 5 f (l .i) (l .at) L = value-line 5 f n (l .i) (l .at) L (omega arith) P (c .before .before .before .before .before .before .loop-test .taken) (l .inv .1 .stands) e in let w = W .inside in omega arith
+add-at c =
+    let at-read-line = c .before .before .before .before in
+    let at-loop-test = at-read-line .before .before in
+    let head = at-loop-test .before in
+    let start = head .before .before .before in
+    let f = start .args .file .now in
+    let n = start .args .count in
+    let l = head .loop in
+    let L = at-read-line .read-line .result in
+    let e : L ≡ lineOf 5 (drop (l .at) f) = at-read-line .read-line .ensures ∙ ap (lineOf 5) (rest f (l .at)) in
+    let P : Passed 5 f n = passed 5 f n (start .pre .0) (start .pre .1) in
+    let W : ValueLine 5 f (l .i) (l .at) L = value-line 5 f n (l .i) (l .at) L (omega arith) P (at-loop-test .loop-test .taken) (l .inv .1 .stands) e in
+    let w = W .inside in
+    omega arith
 
 add-i : tie.Need-add-i Inv-loop μ-loop
 add-i c = omega arith
@@ -119,14 +166,36 @@ loop-less : tie.Need-loop-less Inv-loop μ-loop
 loop-less c = omega arith
 
 loop-again : tie.Need-loop-again Inv-loop μ-loop
-loop-again c = let f = c .before .before .before .before .before .before .before .before .before .before .args .file .now in let n = c .before .before .before .before .before .before .before .before .before .before .args .count in let l = c .before .before .before .before .before .before .before .loop in let L = c .before .before .before .before .read-line .result in let e : L ≡ lineOf 5 (drop (l .at) f) = c .before .before .before .before .read-line .ensures ∙ ap (lineOf 5) (rest f (l .at)) in let P : Passed 5 f n = passed 5 f n (c .before .before .before .before .before .before .before .before .before .before .pre .0) (c .before .before .before .before .before .before .before .before .before .before .pre .1) in let W : ValueLine 5 f (l .i) (l .at) L = value-line 5 f n (l .i) (l .at) L (omega arith) P (c .before .before .before .before .before .before .loop-test .taken) (l .inv .1 .stands) e in (omega arith, stored-more f (l .i) (l .at) (l .resource) (l .from) (l .act) (l .arg) (l .to) (l .inv .1) (omega arith) L W (c .before .before .in-range .result) (c .before .before .in-range .ensures) (c .before .if1 .left))
+loop-again c =
+    let at-in-range = c .before .before in
+    let at-read-line = at-in-range .before .before in
+    let at-loop-test = at-read-line .before .before in
+    let head = at-loop-test .before in
+    let start = head .before .before .before in
+    let f = start .args .file .now in
+    let n = start .args .count in
+    let l = head .loop in
+    let L = at-read-line .read-line .result in
+    let e : L ≡ lineOf 5 (drop (l .at) f) = at-read-line .read-line .ensures ∙ ap (lineOf 5) (rest f (l .at)) in
+    let P : Passed 5 f n = passed 5 f n (start .pre .0) (start .pre .1) in
+    let W : ValueLine 5 f (l .i) (l .at) L = value-line 5 f n (l .i) (l .at) L (omega arith) P (at-loop-test .loop-test .taken) (l .inv .1 .stands) e in
+    (omega arith, stored-more f (l .i) (l .at) (l .resource) (l .from) (l .act) (l .arg) (l .to) (l .inv .1) (omega arith) L W (at-in-range .in-range .result) (at-in-range .in-range .ensures) (c .before .if1 .left))
 
 judged-requires : tie.Need-judged-requires Inv-loop μ-loop
 judged-requires c κs = omega arith
 
 returns-2 : tie.Need-returns-2 Inv-loop μ-loop
 unfolding before
-returns-2 c = let f = c .before .before .before .before .before .args .file .now in let n = c .before .before .before .before .before .args .count in let l = c .before .before .loop in let end : l .i ≡ n = omega arith in let S : Stored f n (l .at) (l .resource) (l .from) (l .act) (l .arg) (l .to) = rw end at (l .inv .1) in let same = stored-cell f n (l .at) (l .resource) (l .from) (l .act) (l .arg) (l .to) S (c .before .before .before .before .before .pre .1) (c .before .before .before .before .before .pre .2) in c .judged .ensures ∙ ap (λ r. reading (before (rule5 r) (rule6 r)) r) same ∙ rw (stored-fine f n (l .at) (l .resource) (l .from) (l .act) (l .arg) (l .to) S (c .before .before .before .before .before .pre .1) (c .before .before .before .before .before .pre .2))
+returns-2 c =
+    let head = c .before .before in
+    let start = head .before .before .before in
+    let f = start .args .file .now in
+    let n = start .args .count in
+    let l = head .loop in
+    let end : l .i ≡ n = omega arith in
+    let S : Stored f n (l .at) (l .resource) (l .from) (l .act) (l .arg) (l .to) = rw end at (l .inv .1) in
+    let same = stored-cell f n (l .at) (l .resource) (l .from) (l .act) (l .arg) (l .to) S (start .pre .1) (start .pre .2) in
+    c .judged .ensures ∙ ap (λ r. reading (before (rule5 r) (rule6 r)) r) same ∙ rw (stored-fine f n (l .at) (l .resource) (l .from) (l .act) (l .arg) (l .to) S (start .pre .1) (start .pre .2))
 
 pub store-lines-spec : {M : Type 1} → statement M
 store-lines-spec =

@@ -22,7 +22,10 @@ returns c = rw (sym (c .before .before .check-points .ensures) ∙ c .enum-told 
 
 returns-2 : tie.Need-returns-2
 unfolding reading
-returns-2 c = c .refused .ensures ∙ rw (sym (c .before .before .before .before .check-points .ensures) ∙ c .before .before .refusal .given .1)
+returns-2 c =
+    let at-refusal = c .before .before in
+    let at-check-points = at-refusal .before .before in
+    c .refused .ensures ∙ rw (sym (at-check-points .check-points .ensures) ∙ at-refusal .refusal .given .1)
 
 pub judged-spec : {M : Type 1} → statement M
 judged-spec =

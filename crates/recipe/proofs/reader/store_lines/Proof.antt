@@ -68,13 +68,28 @@ refused-requires : tie.Need-refused-requires Inv-loop μ-loop
 refused-requires c κs = omega arith
 
 returns : tie.Need-returns Inv-loop μ-loop
-returns c = let f = c .before .before .before .before .before .before .before .before .before .before .args .file .now in let n = c .before .before .before .before .before .before .before .before .before .before .args .count in let l = c .before .before .before .before .before .before .before .loop in let L = c .before .before .before .before .read-line .result in let e : L ≡ lineOf 7 (drop (l .at) f) = c .before .before .before .before .read-line .ensures ∙ ap (lineOf 7) (rest f (l .at)) in let P : Passed 7 f n = passed 7 f n (c .before .before .before .before .before .before .before .before .before .before .pre .0) (c .before .before .before .before .before .before .before .before .before .before .pre .1) in let W : ValueLine 7 f (l .i) (l .at) L = value-line 7 f n (l .i) (l .at) L (omega arith) P (c .before .before .before .before .before .before .loop-test .taken) (l .inv .1 .stands) e in c .refused .ensures ∙ stored-out f (l .i) (l .at) (l .point) (l .kind) (l .op) (l .takes) (l .gives) (l .then) (l .otherwise) (l .inv .1) (omega arith) L W (c .before .before .in-range .result) (c .before .before .in-range .ensures) (checkPoints (recipeOf f)) (omega arith) (c .before .if1 .taken)
+returns c =
+    let at-in-range = c .before .before in
+    let at-read-line = at-in-range .before .before in
+    let at-loop-test = at-read-line .before .before in
+    let head = at-loop-test .before in
+    let start = head .before .before .before in
+    let f = start .args .file .now in
+    let n = start .args .count in
+    let l = head .loop in
+    let L = at-read-line .read-line .result in
+    let e : L ≡ lineOf 7 (drop (l .at) f) = at-read-line .read-line .ensures ∙ ap (lineOf 7) (rest f (l .at)) in
+    let P : Passed 7 f n = passed 7 f n (start .pre .0) (start .pre .1) in
+    let W : ValueLine 7 f (l .i) (l .at) L = value-line 7 f n (l .i) (l .at) L (omega arith) P (at-loop-test .loop-test .taken) (l .inv .1 .stands) e in
+    c .refused .ensures ∙ stored-out f (l .i) (l .at) (l .point) (l .kind) (l .op) (l .takes) (l .gives) (l .then) (l .otherwise) (l .inv .1) (omega arith) L W (at-in-range .in-range .result) (at-in-range .in-range .ensures) (checkPoints (recipeOf f)) (omega arith) (c .before .if1 .taken)
 
 array-read-point : tie.Need-array-read-point Inv-loop μ-loop
 array-read-point c = omega arith
 
 cast-point : tie.Need-cast-point Inv-loop μ-loop
-cast-point c = let B = bytes _ _ _ _ _ _ _ (sym (c .before .in-range .ensures) ∙ not-false _ (c .if1 .left)) in omega (arith, B .point)
+cast-point c =
+    let B = bytes _ _ _ _ _ _ _ (sym (c .before .in-range .ensures) ∙ not-false _ (c .if1 .left)) in
+    omega (arith, B .point)
 
 array-write-point : tie.Need-array-write-point Inv-loop μ-loop
 array-write-point c = omega arith
@@ -83,7 +98,9 @@ array-read-kind : tie.Need-array-read-kind Inv-loop μ-loop
 array-read-kind c = omega arith
 
 cast-kind : tie.Need-cast-kind Inv-loop μ-loop
-cast-kind c = let B = bytes _ _ _ _ _ _ _ (sym (c .before .in-range .ensures) ∙ not-false _ (c .if1 .left)) in omega (arith, B .kind)
+cast-kind c =
+    let B = bytes _ _ _ _ _ _ _ (sym (c .before .in-range .ensures) ∙ not-false _ (c .if1 .left)) in
+    omega (arith, B .kind)
 
 array-write-kind : tie.Need-array-write-kind Inv-loop μ-loop
 array-write-kind c = omega arith
@@ -92,7 +109,9 @@ array-read-op : tie.Need-array-read-op Inv-loop μ-loop
 array-read-op c = omega arith
 
 cast-op : tie.Need-cast-op Inv-loop μ-loop
-cast-op c = let B = bytes _ _ _ _ _ _ _ (sym (c .before .in-range .ensures) ∙ not-false _ (c .if1 .left)) in omega (arith, B .op)
+cast-op c =
+    let B = bytes _ _ _ _ _ _ _ (sym (c .before .in-range .ensures) ∙ not-false _ (c .if1 .left)) in
+    omega (arith, B .op)
 
 array-write-op : tie.Need-array-write-op Inv-loop μ-loop
 array-write-op c = omega arith
@@ -101,7 +120,9 @@ array-read-takes : tie.Need-array-read-takes Inv-loop μ-loop
 array-read-takes c = omega arith
 
 cast-takes : tie.Need-cast-takes Inv-loop μ-loop
-cast-takes c = let B = bytes _ _ _ _ _ _ _ (sym (c .before .in-range .ensures) ∙ not-false _ (c .if1 .left)) in omega (arith, B .takes)
+cast-takes c =
+    let B = bytes _ _ _ _ _ _ _ (sym (c .before .in-range .ensures) ∙ not-false _ (c .if1 .left)) in
+    omega (arith, B .takes)
 
 array-write-takes : tie.Need-array-write-takes Inv-loop μ-loop
 array-write-takes c = omega arith
@@ -110,7 +131,9 @@ array-read-gives : tie.Need-array-read-gives Inv-loop μ-loop
 array-read-gives c = omega arith
 
 cast-gives : tie.Need-cast-gives Inv-loop μ-loop
-cast-gives c = let B = bytes _ _ _ _ _ _ _ (sym (c .before .in-range .ensures) ∙ not-false _ (c .if1 .left)) in omega (arith, B .gives)
+cast-gives c =
+    let B = bytes _ _ _ _ _ _ _ (sym (c .before .in-range .ensures) ∙ not-false _ (c .if1 .left)) in
+    omega (arith, B .gives)
 
 array-write-gives : tie.Need-array-write-gives Inv-loop μ-loop
 array-write-gives c = omega arith
@@ -119,7 +142,9 @@ array-read-then : tie.Need-array-read-then Inv-loop μ-loop
 array-read-then c = omega arith
 
 cast-then : tie.Need-cast-then Inv-loop μ-loop
-cast-then c = let B = bytes _ _ _ _ _ _ _ (sym (c .before .in-range .ensures) ∙ not-false _ (c .if1 .left)) in omega (arith, B .then)
+cast-then c =
+    let B = bytes _ _ _ _ _ _ _ (sym (c .before .in-range .ensures) ∙ not-false _ (c .if1 .left)) in
+    omega (arith, B .then)
 
 array-write-then : tie.Need-array-write-then Inv-loop μ-loop
 array-write-then c = omega arith
@@ -128,13 +153,28 @@ array-read-otherwise : tie.Need-array-read-otherwise Inv-loop μ-loop
 array-read-otherwise c = omega arith
 
 cast-otherwise : tie.Need-cast-otherwise Inv-loop μ-loop
-cast-otherwise c = let B = bytes _ _ _ _ _ _ _ (sym (c .before .in-range .ensures) ∙ not-false _ (c .if1 .left)) in omega (arith, B .otherwise)
+cast-otherwise c =
+    let B = bytes _ _ _ _ _ _ _ (sym (c .before .in-range .ensures) ∙ not-false _ (c .if1 .left)) in
+    omega (arith, B .otherwise)
 
 array-write-otherwise : tie.Need-array-write-otherwise Inv-loop μ-loop
 array-write-otherwise c = omega arith
 
 add-at : tie.Need-add-at Inv-loop μ-loop
-add-at c = let f = c .before .before .before .before .before .before .before .before .before .before .args .file .now in let n = c .before .before .before .before .before .before .before .before .before .before .args .count in let l = c .before .before .before .before .before .before .before .loop in let L = c .before .before .before .before .read-line .result in let e : L ≡ lineOf 7 (drop (l .at) f) = c .before .before .before .before .read-line .ensures ∙ ap (lineOf 7) (rest f (l .at)) in let P : Passed 7 f n = passed 7 f n (c .before .before .before .before .before .before .before .before .before .before .pre .0) (c .before .before .before .before .before .before .before .before .before .before .pre .1) in let W : ValueLine 7 f (l .i) (l .at) L = value-line 7 f n (l .i) (l .at) L (omega arith) P (c .before .before .before .before .before .before .loop-test .taken) (l .inv .1 .stands) e in let w = W .inside in omega arith
+add-at c =
+    let at-read-line = c .before .before .before .before in
+    let at-loop-test = at-read-line .before .before in
+    let head = at-loop-test .before in
+    let start = head .before .before .before in
+    let f = start .args .file .now in
+    let n = start .args .count in
+    let l = head .loop in
+    let L = at-read-line .read-line .result in
+    let e : L ≡ lineOf 7 (drop (l .at) f) = at-read-line .read-line .ensures ∙ ap (lineOf 7) (rest f (l .at)) in
+    let P : Passed 7 f n = passed 7 f n (start .pre .0) (start .pre .1) in
+    let W : ValueLine 7 f (l .i) (l .at) L = value-line 7 f n (l .i) (l .at) L (omega arith) P (at-loop-test .loop-test .taken) (l .inv .1 .stands) e in
+    let w = W .inside in
+    omega arith
 
 add-i : tie.Need-add-i Inv-loop μ-loop
 add-i c = omega arith
@@ -143,14 +183,36 @@ loop-less : tie.Need-loop-less Inv-loop μ-loop
 loop-less c = omega arith
 
 loop-again : tie.Need-loop-again Inv-loop μ-loop
-loop-again c = let f = c .before .before .before .before .before .before .before .before .before .before .args .file .now in let n = c .before .before .before .before .before .before .before .before .before .before .args .count in let l = c .before .before .before .before .before .before .before .loop in let L = c .before .before .before .before .read-line .result in let e : L ≡ lineOf 7 (drop (l .at) f) = c .before .before .before .before .read-line .ensures ∙ ap (lineOf 7) (rest f (l .at)) in let P : Passed 7 f n = passed 7 f n (c .before .before .before .before .before .before .before .before .before .before .pre .0) (c .before .before .before .before .before .before .before .before .before .before .pre .1) in let W : ValueLine 7 f (l .i) (l .at) L = value-line 7 f n (l .i) (l .at) L (omega arith) P (c .before .before .before .before .before .before .loop-test .taken) (l .inv .1 .stands) e in (omega arith, stored-more f (l .i) (l .at) (l .point) (l .kind) (l .op) (l .takes) (l .gives) (l .then) (l .otherwise) (l .inv .1) (omega arith) L W (c .before .before .in-range .result) (c .before .before .in-range .ensures) (c .before .if1 .left))
+loop-again c =
+    let at-in-range = c .before .before in
+    let at-read-line = at-in-range .before .before in
+    let at-loop-test = at-read-line .before .before in
+    let head = at-loop-test .before in
+    let start = head .before .before .before in
+    let f = start .args .file .now in
+    let n = start .args .count in
+    let l = head .loop in
+    let L = at-read-line .read-line .result in
+    let e : L ≡ lineOf 7 (drop (l .at) f) = at-read-line .read-line .ensures ∙ ap (lineOf 7) (rest f (l .at)) in
+    let P : Passed 7 f n = passed 7 f n (start .pre .0) (start .pre .1) in
+    let W : ValueLine 7 f (l .i) (l .at) L = value-line 7 f n (l .i) (l .at) L (omega arith) P (at-loop-test .loop-test .taken) (l .inv .1 .stands) e in
+    (omega arith, stored-more f (l .i) (l .at) (l .point) (l .kind) (l .op) (l .takes) (l .gives) (l .then) (l .otherwise) (l .inv .1) (omega arith) L W (at-in-range .in-range .result) (at-in-range .in-range .ensures) (c .before .if1 .left))
 
 judged-requires : tie.Need-judged-requires Inv-loop μ-loop
 judged-requires c κs = (omega arith, omega arith)
 
 returns-2 : tie.Need-returns-2 Inv-loop μ-loop
 unfolding before
-returns-2 c = let f = c .before .before .before .before .before .args .file .now in let n = c .before .before .before .before .before .args .count in let l = c .before .before .loop in let end : l .i ≡ n = omega arith in let S : Stored f n (l .at) (l .point) (l .kind) (l .op) (l .takes) (l .gives) (l .then) (l .otherwise) = rw end at (l .inv .1) in let same = stored-recipe f n (l .at) (l .point) (l .kind) (l .op) (l .takes) (l .gives) (l .then) (l .otherwise) S (c .before .before .before .before .before .pre .1) (c .before .before .before .before .before .pre .3) in c .judged .ensures ∙ ap (λ r. reading (checkPoints r) r) same ∙ rw (stored-fine f n (l .at) (l .point) (l .kind) (l .op) (l .takes) (l .gives) (l .then) (l .otherwise) S (c .before .before .before .before .before .pre .1) (c .before .before .before .before .before .pre .3))
+returns-2 c =
+    let head = c .before .before in
+    let start = head .before .before .before in
+    let f = start .args .file .now in
+    let n = start .args .count in
+    let l = head .loop in
+    let end : l .i ≡ n = omega arith in
+    let S : Stored f n (l .at) (l .point) (l .kind) (l .op) (l .takes) (l .gives) (l .then) (l .otherwise) = rw end at (l .inv .1) in
+    let same = stored-recipe f n (l .at) (l .point) (l .kind) (l .op) (l .takes) (l .gives) (l .then) (l .otherwise) S (start .pre .1) (start .pre .3) in
+    c .judged .ensures ∙ ap (λ r. reading (checkPoints r) r) same ∙ rw (stored-fine f n (l .at) (l .point) (l .kind) (l .op) (l .takes) (l .gives) (l .then) (l .otherwise) S (start .pre .1) (start .pre .3))
 
 pub store-lines-spec : {M : Type 1} → statement M
 store-lines-spec =

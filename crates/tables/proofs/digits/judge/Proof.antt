@@ -10,13 +10,19 @@ shared-slice-read-if3 : tie.Need-shared-slice-read-if3
 shared-slice-read-if3 c = omega (arith, leading-within (c .before .before .before .args .text .now))
 
 returns-2 : tie.Need-returns-2
-returns-2 c = judged-zero (c .before .before .before .before .args .text .now) (c .before .before .before .before .args .length) (c .before .before .before .before .pre .0) (c .before .before .if2 .taken) (c .before .before .before .before .pre .1) (c .if3 .taken)
+returns-2 c =
+    let start = c .before .before .before .before in
+    judged-zero (start .args .text .now) (start .args .length) (start .pre .0) (omega arith) (start .pre .1) (c .if3 .taken)
 
 returns-3 : tie.Need-returns-3
-returns-3 c = judged-long (c .before .before .before .before .args .text .now) (c .before .before .before .before .args .length) (c .before .before .before .before .pre .0) (c .before .before .before .before .args .value) (c .before .before .before .before .pre .2) (c .before .before .if2 .taken) (c .before .before .before .before .pre .1) (c .if3 .left)
+returns-3 c =
+    let start = c .before .before .before .before in
+    judged-long (start .args .text .now) (start .args .length) (start .pre .0) (start .args .value) (start .pre .2) (omega arith) (start .pre .1) (c .if3 .left)
 
 returns-4 : tie.Need-returns-4
-returns-4 c = judged-digit (c .before .before .args .text .now) (c .before .before .args .length) (c .before .before .pre .0) (c .before .before .args .value) (c .before .before .pre .2) (omega arith)
+returns-4 c =
+    let start = c .before .before in
+    judged-digit (start .args .text .now) (start .args .length) (start .pre .0) (start .args .value) (start .pre .2) (omega arith)
 
 pub judge-spec : {M : Type 1} → statement M
 judge-spec = tie.close (tie.spec returns shared-slice-read-if3 returns-2 returns-3 returns-4)

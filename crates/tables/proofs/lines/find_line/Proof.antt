@@ -18,10 +18,15 @@ next-line-requires : tie.Need-next-line-requires Inv-loop μ-loop
 next-line-requires c κs = omega arith
 
 loop-holds : tie.Need-loop-holds Inv-loop μ-loop
-loop-holds c = (omega arith, stands-first (c .before .before .args .file .now) (c .next-line .result) (c .next-line .ensures))
+loop-holds c =
+    let start = c .before .before in
+    (omega arith, stands-first (start .args .file .now) (c .next-line .result) (c .next-line .ensures))
 
 returns : tie.Need-returns Inv-loop μ-loop
-returns c = found-past (c .before .before .before .before .before .args .file .now) (c .before .before .loop .k) (c .before .before .loop .at) (c .before .before .loop .inv .1) (c .if1 .taken) (c .before .before .before .before .before .args .n) (c .before .loop-test .taken)
+returns c =
+    let head = c .before .before in
+    let start = head .before .before .before in
+    found-past (start .args .file .now) (head .loop .k) (head .loop .at) (head .loop .inv .1) (c .if1 .taken) (start .args .n) (c .before .loop-test .taken)
 
 next-line-requires-2 : tie.Need-next-line-requires-2 Inv-loop μ-loop
 next-line-requires-2 c κs = c .before .before .loop .inv .1 .within
@@ -33,7 +38,10 @@ loop-less : tie.Need-loop-less Inv-loop μ-loop
 loop-less c = omega arith
 
 loop-again : tie.Need-loop-again Inv-loop μ-loop
-loop-again c = (omega arith, stands-next (c .before .before .before .before .before .before .args .file .now) (c .before .before .before .loop .k) (c .before .before .before .loop .at) (c .before .before .before .loop .inv .1) (c .next-line2 .result) (c .next-line2 .ensures))
+loop-again c =
+    let head = c .before .before .before in
+    let start = head .before .before .before in
+    (omega arith, stands-next (start .args .file .now) (head .loop .k) (head .loop .at) (head .loop .inv .1) (c .next-line2 .result) (c .next-line2 .ensures))
 
 sub-line-length : tie.Need-sub-line-length Inv-loop μ-loop
 sub-line-length c = omega arith
@@ -51,10 +59,26 @@ sub-if2 : tie.Need-sub-if2 Inv-loop μ-loop
 sub-if2 c = omega arith
 
 returns-2 : tie.Need-returns-2 Inv-loop μ-loop
-returns-2 c = let f = c .before .before .before .before .before .before .before .args .file .now in let at = c .before .before .before .before .loop .at in let n-is : c .before .before .before .before .loop .k ≡ c .before .before .before .before .before .before .before .args .n = omega arith in let S : Stands f (c .before .before .before .before .before .before .before .args .n) at = rw n-is at (c .before .before .before .before .loop .inv .1) in let e : c .before .line-length .result ≡ length (upTo 10 (drop at f)) = c .before .line-length .ensures ∙ ap (λ l. length (upTo 10 l)) (rest f at) in found-end f (c .before .before .before .before .before .before .before .args .n) at S (c .before .line-length .result) e (c .if2 .taken)
+returns-2 c =
+    let head = c .before .before .before .before in
+    let start = head .before .before .before in
+    let f = start .args .file .now in
+    let at = head .loop .at in
+    let n-is : head .loop .k ≡ start .args .n = omega arith in
+    let S : Stands f (start .args .n) at = rw n-is at (head .loop .inv .1) in
+    let e : c .before .line-length .result ≡ length (upTo 10 (drop at f)) = c .before .line-length .ensures ∙ ap (λ l. length (upTo 10 l)) (rest f at) in
+    found-end f (start .args .n) at S (c .before .line-length .result) e (c .if2 .taken)
 
 returns-3 : tie.Need-returns-3 Inv-loop μ-loop
-returns-3 c = let f = c .before .before .before .before .before .before .before .args .file .now in let at = c .before .before .before .before .loop .at in let n-is : c .before .before .before .before .loop .k ≡ c .before .before .before .before .before .before .before .args .n = omega arith in let S : Stands f (c .before .before .before .before .before .before .before .args .n) at = rw n-is at (c .before .before .before .before .loop .inv .1) in let e : c .before .line-length .result ≡ length (upTo 10 (drop at f)) = c .before .line-length .ensures ∙ ap (λ l. length (upTo 10 l)) (rest f at) in found-line f (c .before .before .before .before .before .before .before .args .n) at S (c .before .line-length .result) e (c .if2 .left)
+returns-3 c =
+    let head = c .before .before .before .before in
+    let start = head .before .before .before in
+    let f = start .args .file .now in
+    let at = head .loop .at in
+    let n-is : head .loop .k ≡ start .args .n = omega arith in
+    let S : Stands f (start .args .n) at = rw n-is at (head .loop .inv .1) in
+    let e : c .before .line-length .result ≡ length (upTo 10 (drop at f)) = c .before .line-length .ensures ∙ ap (λ l. length (upTo 10 l)) (rest f at) in
+    found-line f (start .args .n) at S (c .before .line-length .result) e (c .if2 .left)
 
 pub find-line-spec : {M : Type 1} → statement M
 find-line-spec =

@@ -20,7 +20,11 @@ shared-slice-read-if1 : tie.Need-shared-slice-read-if1 Inv-loop μ-loop
 shared-slice-read-if1 c = omega arith
 
 returns : tie.Need-returns Inv-loop μ-loop
-returns c = omega (arith, upTo-stop 10 (c .before .before .before .before .args .text .now) (c .before .before .before .loop .i) (c .before .before .loop-test .taken) (c .if1 .taken))
+returns c =
+    let at-loop-test = c .before .before in
+    let head = at-loop-test .before in
+    let start = head .before in
+    omega (arith, upTo-stop 10 (start .args .text .now) (head .loop .i) (at-loop-test .loop-test .taken) (c .if1 .taken))
 
 add-i : tie.Need-add-i Inv-loop μ-loop
 add-i c = omega arith
@@ -29,7 +33,11 @@ loop-less : tie.Need-loop-less Inv-loop μ-loop
 loop-less c = omega arith
 
 loop-again : tie.Need-loop-again Inv-loop μ-loop
-loop-again c = (omega arith, omega (arith, upTo-more 10 (c .before .before .before .before .args .text .now) (c .before .before .before .loop .i) (c .before .before .loop-test .taken) (c .if1 .left)))
+loop-again c =
+    let at-loop-test = c .before .before in
+    let head = at-loop-test .before in
+    let start = head .before in
+    (omega arith, omega (arith, upTo-more 10 (start .args .text .now) (head .loop .i) (at-loop-test .loop-test .taken) (c .if1 .left)))
 
 returns-2 : tie.Need-returns-2 Inv-loop μ-loop
 returns-2 c = omega (arith, upTo-end 10 (c .before .before .args .text .now) (c .before .loop .i) (omega arith))

@@ -20,16 +20,31 @@ line-length-requires : tie.Need-line-length-requires
 line-length-requires c κs = search needs
 
 add-end : tie.Need-add-end
-add-end c = let s = c .before .before .before .args .file .now in let at = c .before .before .before .args .at in let e : c .line-length .result ≡ length (upTo 10 (drop at s)) = c .line-length .ensures ∙ ap (λ l. length (upTo 10 l)) (rest s at) in omega (arith, line-within s at (c .line-length .result) (c .before .before .before .pre) e)
+add-end c =
+    let back3 = c .before .before .before in
+    let s = back3 .args .file .now in
+    let at = back3 .args .at in
+    let e : c .line-length .result ≡ length (upTo 10 (drop at s)) = c .line-length .ensures ∙ ap (λ l. length (upTo 10 l)) (rest s at) in
+    omega (arith, line-within s at (c .line-length .result) (back3 .pre) e)
 
 add-result : tie.Need-add-result
 add-result c = search needs
 
 returns : tie.Need-returns
-returns c = let s = c .before .before .before .before .args .file .now in let at = c .before .before .before .before .args .at in let e : c .before .line-length .result ≡ length (upTo 10 (drop at s)) = c .before .line-length .ensures ∙ ap (λ l. length (upTo 10 l)) (rest s at) in next-some s at (c .before .line-length .result) (c .before .before .before .before .pre) e (c .if1 .taken)
+returns c =
+    let start = c .before .before .before .before in
+    let s = start .args .file .now in
+    let at = start .args .at in
+    let e : c .before .line-length .result ≡ length (upTo 10 (drop at s)) = c .before .line-length .ensures ∙ ap (λ l. length (upTo 10 l)) (rest s at) in
+    next-some s at (c .before .line-length .result) (start .pre) e (c .if1 .taken)
 
 returns-2 : tie.Need-returns-2
-returns-2 c = let s = c .before .before .before .before .args .file .now in let at = c .before .before .before .before .args .at in let e : c .before .line-length .result ≡ length (upTo 10 (drop at s)) = c .before .line-length .ensures ∙ ap (λ l. length (upTo 10 l)) (rest s at) in next-none s at (c .before .line-length .result) (c .before .before .before .before .pre) e (c .if1 .left)
+returns-2 c =
+    let start = c .before .before .before .before in
+    let s = start .args .file .now in
+    let at = start .args .at in
+    let e : c .before .line-length .result ≡ length (upTo 10 (drop at s)) = c .before .line-length .ensures ∙ ap (λ l. length (upTo 10 l)) (rest s at) in
+    next-none s at (c .before .line-length .result) (start .pre) e (c .if1 .left)
 
 pub next-line-spec : {M : Type 1} → statement M
 next-line-spec =

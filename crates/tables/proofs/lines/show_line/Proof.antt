@@ -21,7 +21,11 @@ part-result-end : tie.Need-part-result-end
 part-result-end c = c .before .find-line .ensures .inside
 
 returns : tie.Need-returns
-returns c = let F = c .before .before .find-line .ensures in let n : c .before .before .find-line .result .start + c .before .before .find-line .result .length - c .before .before .find-line .result .start ≡ c .before .before .find-line .result .length = omega arith in rw n (F .bytes)
+returns c =
+    let at-find-line = c .before .before in
+    let F = at-find-line .find-line .ensures in
+    let n : at-find-line .find-line .result .start + at-find-line .find-line .result .length - at-find-line .find-line .result .start ≡ at-find-line .find-line .result .length = omega arith in
+    rw n (F .bytes)
 
 pub show-line-spec : {M : Type 1} → statement M
 show-line-spec =

@@ -33,7 +33,14 @@ read-field-requires : tie.Need-read-field-requires Inv-loop μ-loop
 read-field-requires c κs = tt
 
 returns : tie.Need-returns Inv-loop μ-loop
-returns c = let s = c .before .before .before .before .before .before .args .text .now in let l = c .before .before .before .before .loop in let e : c .before .read-field .result ≡ fieldOf 44 (drop (l .at) s) = c .before .read-field .ensures ∙ ap (fieldOf 44) (rest s (l .at)) in reads-broken (c .before .before .before .before .before .before .args .k) s (l .at) (l .j) (l .values) (l .inv) (c .before .read-field .result) e (c .before .before .before .loop-test .taken) (c .if1 .taken)
+returns c =
+    let at-loop-test = c .before .before .before in
+    let head = at-loop-test .before in
+    let start = head .before .before in
+    let s = start .args .text .now in
+    let l = head .loop in
+    let e : c .before .read-field .result ≡ fieldOf 44 (drop (l .at) s) = c .before .read-field .ensures ∙ ap (fieldOf 44) (rest s (l .at)) in
+    reads-broken (start .args .k) s (l .at) (l .j) (l .values) (l .inv) (c .before .read-field .result) e (at-loop-test .loop-test .taken) (c .if1 .taken)
 
 mul-values : tie.Need-mul-values Inv-loop μ-loop
 mul-values c = omega arith
@@ -42,7 +49,14 @@ array-write-values : tie.Need-array-write-values Inv-loop μ-loop
 array-write-values c = omega arith
 
 add-at : tie.Need-add-at Inv-loop μ-loop
-add-at c = let s = c .before .before .before .before .before .before .args .text .now in let l = c .before .before .before .before .loop in let e : c .before .read-field .result ≡ fieldOf 44 (drop (l .at) s) = c .before .read-field .ensures ∙ ap (fieldOf 44) (rest s (l .at)) in let w = field-within (c .before .before .before .before .before .before .args .k) s (l .at) (l .j) (l .values) (l .inv) (c .before .read-field .result) 44 e (c .if1 .left) in omega arith
+add-at c =
+    let head = c .before .before .before .before in
+    let start = head .before .before in
+    let s = start .args .text .now in
+    let l = head .loop in
+    let e : c .before .read-field .result ≡ fieldOf 44 (drop (l .at) s) = c .before .read-field .ensures ∙ ap (fieldOf 44) (rest s (l .at)) in
+    let w = field-within (start .args .k) s (l .at) (l .j) (l .values) (l .inv) (c .before .read-field .result) 44 e (c .if1 .left) in
+    omega arith
 
 add-j : tie.Need-add-j Inv-loop μ-loop
 add-j c = omega arith
@@ -51,7 +65,14 @@ loop-less : tie.Need-loop-less Inv-loop μ-loop
 loop-less c = omega arith
 
 loop-again : tie.Need-loop-again Inv-loop μ-loop
-loop-again c = let s = c .before .before .before .before .before .before .args .text .now in let l = c .before .before .before .before .loop in let e : c .before .read-field .result ≡ fieldOf 44 (drop (l .at) s) = c .before .read-field .ensures ∙ ap (fieldOf 44) (rest s (l .at)) in reads-more (c .before .before .before .before .before .before .args .k) s (l .at) (l .j) (l .values) (l .inv) (c .before .read-field .result) e (c .before .before .before .loop-test .taken) (c .if1 .left)
+loop-again c =
+    let at-loop-test = c .before .before .before in
+    let head = at-loop-test .before in
+    let start = head .before .before in
+    let s = start .args .text .now in
+    let l = head .loop in
+    let e : c .before .read-field .result ≡ fieldOf 44 (drop (l .at) s) = c .before .read-field .ensures ∙ ap (fieldOf 44) (rest s (l .at)) in
+    reads-more (start .args .k) s (l .at) (l .j) (l .values) (l .inv) (c .before .read-field .result) e (at-loop-test .loop-test .taken) (c .if1 .left)
 
 sub-read-field-2 : tie.Need-sub-read-field-2 Inv-loop μ-loop
 sub-read-field-2 c = omega arith
@@ -66,7 +87,13 @@ read-field-requires-2 : tie.Need-read-field-requires-2 Inv-loop μ-loop
 read-field-requires-2 c κs = tt
 
 returns-2 : tie.Need-returns-2 Inv-loop μ-loop
-returns-2 c = let s = c .before .before .before .before .before .before .args .text .now in let l = c .before .before .before .before .loop in let e : c .before .read-field2 .result ≡ fieldOf 10 (drop (l .at) s) = c .before .read-field2 .ensures ∙ ap (fieldOf 10) (rest s (l .at)) in reads-unended (c .before .before .before .before .before .before .args .k) s (l .at) (l .j) (l .values) (l .inv) (c .before .read-field2 .result) e (omega arith) (c .if2 .taken)
+returns-2 c =
+    let head = c .before .before .before .before in
+    let start = head .before .before in
+    let s = start .args .text .now in
+    let l = head .loop in
+    let e : c .before .read-field2 .result ≡ fieldOf 10 (drop (l .at) s) = c .before .read-field2 .ensures ∙ ap (fieldOf 10) (rest s (l .at)) in
+    reads-unended (start .args .k) s (l .at) (l .j) (l .values) (l .inv) (c .before .read-field2 .result) e (omega arith) (c .if2 .taken)
 
 mul-values-2 : tie.Need-mul-values-2 Inv-loop μ-loop
 mul-values-2 c = omega arith
@@ -75,10 +102,23 @@ array-write-values-2 : tie.Need-array-write-values-2 Inv-loop μ-loop
 array-write-values-2 c = omega arith
 
 add-t19 : tie.Need-add-t19 Inv-loop μ-loop
-add-t19 c = let s = c .before .before .before .before .before .before .args .text .now in let l = c .before .before .before .before .loop in let e : c .before .read-field2 .result ≡ fieldOf 10 (drop (l .at) s) = c .before .read-field2 .ensures ∙ ap (fieldOf 10) (rest s (l .at)) in let w = field-within (c .before .before .before .before .before .before .args .k) s (l .at) (l .j) (l .values) (l .inv) (c .before .read-field2 .result) 10 e (c .if2 .left) in omega arith
+add-t19 c =
+    let head = c .before .before .before .before in
+    let start = head .before .before in
+    let s = start .args .text .now in
+    let l = head .loop in
+    let e : c .before .read-field2 .result ≡ fieldOf 10 (drop (l .at) s) = c .before .read-field2 .ensures ∙ ap (fieldOf 10) (rest s (l .at)) in
+    let w = field-within (start .args .k) s (l .at) (l .j) (l .values) (l .inv) (c .before .read-field2 .result) 10 e (c .if2 .left) in
+    omega arith
 
 returns-3 : tie.Need-returns-3 Inv-loop μ-loop
-returns-3 c = let s = c .before .before .before .before .before .before .args .text .now in let l = c .before .before .before .before .loop in let e : c .before .read-field2 .result ≡ fieldOf 10 (drop (l .at) s) = c .before .read-field2 .ensures ∙ ap (fieldOf 10) (rest s (l .at)) in reads-line (c .before .before .before .before .before .before .args .k) s (l .at) (l .j) (l .values) (l .inv) (c .before .read-field2 .result) e (omega arith) (c .if2 .left)
+returns-3 c =
+    let head = c .before .before .before .before in
+    let start = head .before .before in
+    let s = start .args .text .now in
+    let l = head .loop in
+    let e : c .before .read-field2 .result ≡ fieldOf 10 (drop (l .at) s) = c .before .read-field2 .ensures ∙ ap (fieldOf 10) (rest s (l .at)) in
+    reads-line (start .args .k) s (l .at) (l .j) (l .values) (l .inv) (c .before .read-field2 .result) e (omega arith) (c .if2 .left)
 
 pub read-line-spec : {M : Type 1} → statement M
 read-line-spec =

@@ -18,7 +18,9 @@ next-line-requires : tie.Need-next-line-requires Inv-loop μ-loop
 next-line-requires c κs = omega arith
 
 loop-holds : tie.Need-loop-holds Inv-loop μ-loop
-loop-holds c = judges-none (c .before .before .args .k) (c .before .before .args .file .now) (c .next-line .result) (c .next-line .ensures)
+loop-holds c =
+    let start = c .before .before in
+    judges-none (start .args .k) (start .args .file .now) (c .next-line .result) (c .next-line .ensures)
 
 sub-read-line : tie.Need-sub-read-line Inv-loop μ-loop
 sub-read-line c = omega arith
@@ -33,22 +35,49 @@ read-line-requires : tie.Need-read-line-requires Inv-loop μ-loop
 read-line-requires c κs = c .before .before .before .before .before .pre
 
 returns : tie.Need-returns Inv-loop μ-loop
-returns c = let f = c .before .before .before .before .before .before .before .args .file .now in let l = c .before .before .before .before .loop in let e : c .before .read-line .result ≡ lineOf (c .before .before .before .before .before .before .before .args .k) (drop (l .at) f) = c .before .read-line .ensures ∙ ap (lineOf (c .before .before .before .before .before .before .before .args .k)) (rest f (l .at)) in judges-broken (c .before .before .before .before .before .before .before .args .k) f (l .n) (l .at) (l .inv) (c .before .read-line .result) e (c .before .before .before .loop-test .taken) (c .if1 .taken)
+returns c =
+    let at-loop-test = c .before .before .before in
+    let head = at-loop-test .before in
+    let start = head .before .before .before in
+    let f = start .args .file .now in
+    let l = head .loop in
+    let e : c .before .read-line .result ≡ lineOf (start .args .k) (drop (l .at) f) = c .before .read-line .ensures ∙ ap (lineOf (start .args .k)) (rest f (l .at)) in
+    judges-broken (start .args .k) f (l .n) (l .at) (l .inv) (c .before .read-line .result) e (at-loop-test .loop-test .taken) (c .if1 .taken)
 
 add-at : tie.Need-add-at Inv-loop μ-loop
-add-at c = let f = c .before .before .before .before .before .before .before .args .file .now in let l = c .before .before .before .before .loop in let e : c .before .read-line .result ≡ lineOf (c .before .before .before .before .before .before .before .args .k) (drop (l .at) f) = c .before .read-line .ensures ∙ ap (lineOf (c .before .before .before .before .before .before .before .args .k)) (rest f (l .at)) in let w = row-within (c .before .before .before .before .before .before .before .args .k) f (l .n) (l .at) (l .inv) (c .before .read-line .result) e (c .if1 .left) in omega arith
+add-at c =
+    let back4 = c .before .before .before .before in
+    let back7 = back4 .before .before .before in
+    let f = back7 .args .file .now in
+    let l = back4 .loop in
+    let e : c .before .read-line .result ≡ lineOf (back7 .args .k) (drop (l .at) f) = c .before .read-line .ensures ∙ ap (lineOf (back7 .args .k)) (rest f (l .at)) in
+    let w = row-within (back7 .args .k) f (l .n) (l .at) (l .inv) (c .before .read-line .result) e (c .if1 .left) in
+    omega arith
 
 add-n : tie.Need-add-n Inv-loop μ-loop
 add-n c = omega arith
 
 loop-less : tie.Need-loop-less Inv-loop μ-loop
-loop-less c = let f = c .before .before .before .before .before .before .before .args .file .now in let l = c .before .before .before .before .loop in omega arith
+loop-less c =
+    let head = c .before .before .before .before in
+    let start = head .before .before .before in
+    let f = start .args .file .now in
+    let l = head .loop in
+    omega arith
 
 loop-again : tie.Need-loop-again Inv-loop μ-loop
-loop-again c = let f = c .before .before .before .before .before .before .before .args .file .now in let l = c .before .before .before .before .loop in let e : c .before .read-line .result ≡ lineOf (c .before .before .before .before .before .before .before .args .k) (drop (l .at) f) = c .before .read-line .ensures ∙ ap (lineOf (c .before .before .before .before .before .before .before .args .k)) (rest f (l .at)) in judges-more (c .before .before .before .before .before .before .before .args .k) f (l .n) (l .at) (l .inv) (c .before .read-line .result) e (c .if1 .left)
+loop-again c =
+    let head = c .before .before .before .before in
+    let start = head .before .before .before in
+    let f = start .args .file .now in
+    let l = head .loop in
+    let e : c .before .read-line .result ≡ lineOf (start .args .k) (drop (l .at) f) = c .before .read-line .ensures ∙ ap (lineOf (start .args .k)) (rest f (l .at)) in
+    judges-more (start .args .k) f (l .n) (l .at) (l .inv) (c .before .read-line .result) e (c .if1 .left)
 
 returns-2 : tie.Need-returns-2 Inv-loop μ-loop
-returns-2 c = judges-end (c .before .before .before .before .args .k) (c .before .before .before .before .args .file .now) (c .before .loop .n) (c .before .loop .at) (c .before .loop .inv) (c .loop-test .left)
+returns-2 c =
+    let start = c .before .before .before .before in
+    judges-end (start .args .k) (start .args .file .now) (c .before .loop .n) (c .before .loop .at) (c .before .loop .inv) (c .loop-test .left)
 
 pub check-lines-spec : {M : Type 1} → statement M
 check-lines-spec =

@@ -17,7 +17,10 @@ loop-holds : tie.Need-loop-holds Inv-loop μ-loop
 loop-holds c = (omega arith, omega arith, refl)
 
 returns : tie.Need-returns Inv-loop μ-loop
-returns c = sym (c .before .before .loop .inv .2 ∙ starts-short (c .before .before .before .args .names .now) (c .before .before .before .args .file .now) (c .before .before .loop .i) (omega arith) (c .if1 .taken))
+returns c =
+    let head = c .before .before in
+    let start = head .before in
+    sym (head .loop .inv .2 ∙ starts-short (start .args .names .now) (start .args .file .now) (head .loop .i) (omega arith) (c .if1 .taken))
 
 shared-slice-read-if2 : tie.Need-shared-slice-read-if2 Inv-loop μ-loop
 shared-slice-read-if2 c = omega arith
@@ -26,7 +29,10 @@ shared-slice-read-if2-2 : tie.Need-shared-slice-read-if2-2 Inv-loop μ-loop
 shared-slice-read-if2-2 c = omega arith
 
 returns-2 : tie.Need-returns-2 Inv-loop μ-loop
-returns-2 c = sym (c .before .before .before .before .before .loop .inv .2 ∙ starts-differs (c .before .before .before .before .before .before .args .names .now) (c .before .before .before .before .before .before .args .file .now) (c .before .before .before .before .before .loop .i) (omega arith) (omega arith) (c .if2 .taken))
+returns-2 c =
+    let head = c .before .before .before .before .before in
+    let start = head .before in
+    sym (head .loop .inv .2 ∙ starts-differs (start .args .names .now) (start .args .file .now) (head .loop .i) (omega arith) (omega arith) (c .if2 .taken))
 
 add-i : tie.Need-add-i Inv-loop μ-loop
 add-i c = omega arith
@@ -35,10 +41,15 @@ loop-less : tie.Need-loop-less Inv-loop μ-loop
 loop-less c = omega arith
 
 loop-again : tie.Need-loop-again Inv-loop μ-loop
-loop-again c = (omega arith, omega arith, c .before .before .before .before .before .loop .inv .2 ∙ starts-more (c .before .before .before .before .before .before .args .names .now) (c .before .before .before .before .before .before .args .file .now) (c .before .before .before .before .before .loop .i) (omega arith) (omega arith) (c .if2 .left))
+loop-again c =
+    let head = c .before .before .before .before .before in
+    let start = head .before in
+    (omega arith, omega arith, head .loop .inv .2 ∙ starts-more (start .args .names .now) (start .args .file .now) (head .loop .i) (omega arith) (omega arith) (c .if2 .left))
 
 returns-3 : tie.Need-returns-3 Inv-loop μ-loop
-returns-3 c = sym (c .before .loop .inv .2 ∙ starts-whole (c .before .before .args .names .now) (c .before .before .args .file .now) (c .before .loop .i) (c .loop-test .left))
+returns-3 c =
+    let start = c .before .before in
+    sym (c .before .loop .inv .2 ∙ starts-whole (start .args .names .now) (start .args .file .now) (c .before .loop .i) (c .loop-test .left))
 
 pub has-names-spec : {M : Type 1} → statement M
 has-names-spec =

@@ -1,0 +1,2 @@
+-- The worked examples marked ‡.
+pub mod Table
