@@ -82,8 +82,9 @@ pub fn read_cell(file: &[u8]) -> CellReading
     if !tables::rules::has_names(file, b"resource,from,act,arg,to\n") {
         return reader::refused(Refusal::Names, 1);
     }
-    match tables::rules::check_lines(file, 5) {
+    let mut numbers = [0u32; 448];
+    match tables::rules::check_lines(file, 5, &mut numbers) {
         Form::Broken(n) => reader::refused(Refusal::Form, n + 2),
-        Form::Whole(count) => reader::read_lines(file, count),
+        Form::Whole(count) => reader::read_lines(&numbers, count),
     }
 }

@@ -1,11 +1,11 @@
-// The value lines of a cell file that passed rules 1 and 2, read into a record.
+// The numbers of a cell file that passed rules 1 and 2, read into a record.
 ghost use mathlib.Core.Path.{_≡_};
-ghost use mathlib.Core.Bool.{false};
-ghost use Prim.Native.Nat.{_≤_};
+ghost use mathlib.Core.List.{List};
+ghost use Prim.Native.Nat.{ℕ, _≤_};
 ghost use lib.ListN.{length};
 ghost use Rattle.refusals.specs.Verdict.{before};
 ghost use Rattle.tables.specs.Lines.{valueLines};
-ghost use Rattle.tables.specs.Table.{isBroken};
+ghost use Rattle.tables.specs.Reading.{Kept};
 ghost use Rattle.cell.specs.Reader.{cellOf, reading, noCell};
 ghost use Rattle.cell.specs.Rules.{rule4, rule5, rule6, checkCell};
 use crate::Cell;
@@ -45,30 +45,32 @@ fn judged(cell: Cell) -> CellReading
     }
 }
 
-// Rule 4 and the rest, over the numbers of the file: they are stored once they are in range.
-fn store_lines(file: &[u8], count: usize) -> CellReading
-    requires { ⌜ (isBroken 5 (now file) ≡ false) × (count ≡ length (valueLines (now file))) × (count ≤ 64) ⌝ }
-    ensures { λ r. ⌜ r ≡ reading (before (rule4 (cellOf (now (file .entry)))) (before (rule5 (cellOf (now (file .entry)))) (rule6 (cellOf (now (file .entry)))))) (cellOf (now (file .entry))) ⌝ }
+// Rule 4 and the rest, over the numbers that rule 2 kept: they are stored once they are in range.
+fn store_lines(numbers: &[u32], count: usize) -> CellReading
+    requires { ⌜ (448 ≤ length (now numbers)) × (count ≤ 64) ⌝ }
+    ensures { λ r. ⌜ ((file : List ℕ) → count ≡ length (valueLines file) → Kept 5 file count (now (numbers .entry)) → r ≡ reading (before (rule4 (cellOf file)) (before (rule5 (cellOf file)) (rule6 (cellOf file)))) (cellOf file)) ⌝ }
 {
     let mut resource = [0u8; 64];
     let mut from = [0u8; 64];
     let mut act = [0u8; 64];
     let mut arg = [0u8; 64];
     let mut to = [0u8; 64];
-    let mut at = tables::lines::next_line(file, 0);
     let mut i = 0;
     while i < count {
-        let line = tables::row::read_line(&file[at..], 5);
-        let numbers = line.values;
-        if !range::in_range(numbers[0], numbers[1], numbers[2], numbers[3], numbers[4]) {
+        let at = i * 7;
+        let a = numbers[at];
+        let b = numbers[at + 1];
+        let c = numbers[at + 2];
+        let d = numbers[at + 3];
+        let e = numbers[at + 4];
+        if !range::in_range(a, b, c, d, e) {
             return refused(Refusal::Range, i + 2);
         }
-        resource[i] = numbers[0] as u8;
-        from[i] = numbers[1] as u8;
-        act[i] = numbers[2] as u8;
-        arg[i] = numbers[3] as u8;
-        to[i] = numbers[4] as u8;
-        at += line.length;
+        resource[i] = a as u8;
+        from[i] = b as u8;
+        act[i] = c as u8;
+        arg[i] = d as u8;
+        to[i] = e as u8;
         i += 1;
     }
     judged(Cell {
@@ -81,13 +83,13 @@ fn store_lines(file: &[u8], count: usize) -> CellReading
     })
 }
 
-// Rule 3 and the rest.
-pub fn read_lines(file: &[u8], count: usize) -> CellReading
-    requires { ⌜ (isBroken 5 (now file) ≡ false) × (count ≡ length (valueLines (now file))) ⌝ }
-    ensures { λ r. ⌜ r ≡ reading (checkCell (cellOf (now (file .entry)))) (cellOf (now (file .entry))) ⌝ }
+// Rule 3 and the rest, for a file that passed rule 2 with so many lines.
+pub fn read_lines(numbers: &[u32], count: usize) -> CellReading
+    requires { ⌜ 448 ≤ length (now numbers) ⌝ }
+    ensures { λ r. ⌜ ((file : List ℕ) → count ≡ length (valueLines file) → Kept 5 file count (now (numbers .entry)) → r ≡ reading (checkCell (cellOf file)) (cellOf file)) ⌝ }
 {
     match refusals::check_count(count) {
-        Verdict::Accepted => store_lines(file, count),
+        Verdict::Accepted => store_lines(numbers, count),
         Verdict::Refused(refusal, line) => refused(refusal, line),
     }
 }

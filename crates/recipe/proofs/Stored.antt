@@ -1,8 +1,8 @@
 -- The record that a reader fills from a file's numbers, line by line. Assumes nothing.
-use mathlib.Core.Path.{_≡_, refl, _∙_}
+use mathlib.Core.Path.{_≡_, refl, ap, _∙_}
 use mathlib.Core.Bool.{Bool, true, false, not}
 use mathlib.Core.List.{List}
-use Prim.Native.Nat.{ℕ, _+_, _<_, _≤_}
+use Prim.Native.Nat.{ℕ, _+_, _*_, _<_, _≤_}
 use native.Mathlib.Omega.{arith}
 use lib.ListN.{length, getD, set}
 use borrow.Author.Tests.{leb-true}
@@ -13,12 +13,9 @@ use Rattle.refusals.specs.Search.{firstBelow}
 use Rattle.refusals.specs.Verdict.{before}
 use Rattle.refusals.proofs.Scan.{first-more}
 use Rattle.refusals.proofs.Verdicts.{and-left, and-right, line-found, line-none}
-use Rattle.tables.specs.declared.Line.{Line}
 use Rattle.tables.specs.Lines.{valueLines}
-use Rattle.tables.specs.Table.{column}
-use Rattle.tables.specs.Reading.{Next}
-use Rattle.tables.proofs.Walk.{Stands, stands-first}
-use Rattle.tables.proofs.Values.{ValueLine}
+use Rattle.tables.specs.Table.{numberAt, column}
+use Rattle.tables.specs.Reading.{Kept}
 use Rattle.tables.proofs.Columns.{zeros, column-at, Filled, filled-none, filled-more, filled-all}
 use Rattle.recipe.specs.Rules.{inRange, leavesRange, rule4}
 use Rattle.recipe.specs.Reader.{recipeOf, noRecipe, reading}
@@ -27,8 +24,7 @@ abbrev pub leaves : List ℕ → ℕ → Bool
 leaves f = leavesRange (column f 0) (column f 1) (column f 2) (column f 3) (column f 4) (column f 5) (column f 6)
 
 -- i lines are stored, each in range
-pub record Stored (f : List ℕ) (i at : ℕ) (point kind op takes gives then otherwise : List ℕ) : Type 0 where
-  pub stands : Stands f i at
+pub record Stored (f : List ℕ) (i : ℕ) (point kind op takes gives then otherwise : List ℕ) : Type 0 where
   pub fine : firstBelow (leaves f) i ≡ i
   pub points : Filled f 0 i point
   pub kinds : Filled f 1 i kind
@@ -38,11 +34,10 @@ pub record Stored (f : List ℕ) (i at : ℕ) (point kind op takes gives then ot
   pub thens : Filled f 5 i then
   pub others : Filled f 6 i otherwise
 
-pub stored-none : (f : List ℕ) (r : ℕ) → Next f 0 r → Stored f 0 r zeros zeros zeros zeros zeros zeros zeros
+pub stored-none : (f : List ℕ) → Stored f 0 zeros zeros zeros zeros zeros zeros zeros
 unfolding firstBelow
-stored-none f r N =
+stored-none f =
     record {
-      stands = stands-first f r N;
       fine = refl;
       points = filled-none f 0;
       kinds = filled-none f 1;
@@ -75,39 +70,60 @@ bytes a b c d e f g good =
     let rg : g ≤ 15 = leb-true _ _ (search (and-left, and-right)) in
     record { point = omega arith; kind = omega arith; op = omega arith; takes = omega arith; gives = omega arith; then = omega arith; otherwise = omega arith }
 
-module _ (f : List ℕ) (i at : ℕ) (point kind op takes gives then otherwise : List ℕ) (S : Stored f i at point kind op takes gives then otherwise) (few : i < 64) (L : Line) (W : ValueLine 7 f i at L) where
-  abbrev pub number : ℕ → ℕ
-  number j = getD (L .values) j 0
+-- the numbers of value line i
+pub record Line (f : List ℕ) (i n0 n1 n2 n3 n4 n5 n6 : ℕ) : Type 0 where
+  pub point : n0 ≡ numberAt f 0 i
+  pub kind : n1 ≡ numberAt f 1 i
+  pub op : n2 ≡ numberAt f 2 i
+  pub takes : n3 ≡ numberAt f 3 i
+  pub gives : n4 ≡ numberAt f 4 i
+  pub then : n5 ≡ numberAt f 5 i
+  pub otherwise : n6 ≡ numberAt f 6 i
 
+-- as rule 2 kept them
+pub line-kept : (f : List ℕ) (count : ℕ) (store : List ℕ) → Kept 7 f count store → (i : ℕ) → i < count → i < 64
+    → Line f i (getD store (i * 7) 0) (getD store (i * 7 + 1) 0) (getD store (i * 7 + 2) 0) (getD store (i * 7 + 3) 0) (getD store (i * 7 + 4) 0) (getD store (i * 7 + 5) 0) (getD store (i * 7 + 6) 0)
+line-kept f count store kept i low few =
+    let first : i * 7 ≡ i * 7 + 0 = omega arith in
+    record {
+      point = ap (λ (p : ℕ). getD store p 0) first ∙ kept .number i 0 low few (omega arith);
+      kind = kept .number i 1 low few (omega arith);
+      op = kept .number i 2 low few (omega arith);
+      takes = kept .number i 3 low few (omega arith);
+      gives = kept .number i 4 low few (omega arith);
+      then = kept .number i 5 low few (omega arith);
+      otherwise = kept .number i 6 low few (omega arith);
+    }
+
+module _ (f : List ℕ) (i : ℕ) (point kind op takes gives then otherwise : List ℕ) (S : Stored f i point kind op takes gives then otherwise) (few : i < 64) (n0 n1 n2 n3 n4 n5 n6 : ℕ) (W : Line f i n0 n1 n2 n3 n4 n5 n6) where
   -- the line's numbers are those of the record
-  leaves-is : (b : Bool) → b ≡ inRange (number 0) (number 1) (number 2) (number 3) (number 4) (number 5) (number 6) → leaves f i ≡ not b
+  leaves-is : (good : Bool) → good ≡ inRange n0 n1 n2 n3 n4 n5 n6 → leaves f i ≡ not good
   unfolding leavesRange
-  leaves-is b e =
-      rw (column-at f 0 i few, column-at f 1 i few, column-at f 2 i few, column-at f 3 i few, column-at f 4 i few, column-at f 5 i few, column-at f 6 i few, e, W .number 0 (omega arith), W .number 1 (omega arith), W .number 2 (omega arith), W .number 3 (omega arith), W .number 4 (omega arith), W .number 5 (omega arith), W .number 6 (omega arith))
+  leaves-is good is =
+      rw (column-at f 0 i few, column-at f 1 i few, column-at f 2 i few, column-at f 3 i few, column-at f 4 i few, column-at f 5 i few, column-at f 6 i few, is, W .point, W .kind, W .op, W .takes, W .gives, W .then, W .otherwise)
 
-  module _ (b : Bool) (judged : b ≡ inRange (number 0) (number 1) (number 2) (number 3) (number 4) (number 5) (number 6)) where
+  module _ (good : Bool) (judged : good ≡ inRange n0 n1 n2 n3 n4 n5 n6) where
     -- a number leaves its range
-    pub stored-out : (v : Verdict) → i < length (valueLines f) → not b ≡ true
+    pub stored-out : (v : Verdict) → i < length (valueLines f) → not good ≡ true
         → reading (Refused Range (i + 2)) noRecipe ≡ reading (before (rule4 (recipeOf f)) v) (recipeOf f)
     unfolding reading before rule4 recipeOf
-    stored-out v low out = rw (line-found Range (leaves f) (length (valueLines f)) i low (S .fine) (leaves-is b judged ∙ out))
+    stored-out v low out = rw (line-found Range (leaves f) (length (valueLines f)) i low (S .fine) (leaves-is good judged ∙ out))
 
     -- all are in range, and stored
-    pub stored-more : not b ≡ false → Stored f (i + 1) (at + L .length) (set point i (number 0)) (set kind i (number 1)) (set op i (number 2)) (set takes i (number 3)) (set gives i (number 4)) (set then i (number 5)) (set otherwise i (number 6))
-    stored-more good =
+    pub stored-more : not good ≡ false → Stored f (i + 1) (set point i n0) (set kind i n1) (set op i n2) (set takes i n3) (set gives i n4) (set then i n5) (set otherwise i n6)
+    stored-more in-range =
         record {
-          stands = W .next;
-          fine = first-more (leaves f) i (S .fine) (leaves-is b judged ∙ good);
-          points = filled-more f 0 i point (number 0) few (S .points) (W .number 0 (omega arith));
-          kinds = filled-more f 1 i kind (number 1) few (S .kinds) (W .number 1 (omega arith));
-          ops = filled-more f 2 i op (number 2) few (S .ops) (W .number 2 (omega arith));
-          taken = filled-more f 3 i takes (number 3) few (S .taken) (W .number 3 (omega arith));
-          given = filled-more f 4 i gives (number 4) few (S .given) (W .number 4 (omega arith));
-          thens = filled-more f 5 i then (number 5) few (S .thens) (W .number 5 (omega arith));
-          others = filled-more f 6 i otherwise (number 6) few (S .others) (W .number 6 (omega arith));
+          fine = first-more (leaves f) i (S .fine) (leaves-is good judged ∙ in-range);
+          points = filled-more f 0 i point n0 few (S .points) (W .point);
+          kinds = filled-more f 1 i kind n1 few (S .kinds) (W .kind);
+          ops = filled-more f 2 i op n2 few (S .ops) (W .op);
+          taken = filled-more f 3 i takes n3 few (S .taken) (W .takes);
+          given = filled-more f 4 i gives n4 few (S .given) (W .gives);
+          thens = filled-more f 5 i then n5 few (S .thens) (W .then);
+          others = filled-more f 6 i otherwise n6 few (S .others) (W .otherwise);
         }
 
-module _ (f : List ℕ) (count at : ℕ) (point kind op takes gives then otherwise : List ℕ) (S : Stored f count at point kind op takes gives then otherwise) (all : count ≡ length (valueLines f)) (most : count ≤ 64) where
+module _ (f : List ℕ) (count : ℕ) (point kind op takes gives then otherwise : List ℕ) (S : Stored f count point kind op takes gives then otherwise) (all : count ≡ length (valueLines f)) (most : count ≤ 64) where
   -- the record is the file's
   pub stored-recipe : record { count = count; point = point; kind = kind; op = op; takes = takes; gives = gives; then = then; otherwise = otherwise } ≡ recipeOf f
   unfolding recipeOf

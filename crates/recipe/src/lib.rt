@@ -111,8 +111,9 @@ pub fn read_recipe(file: &[u8]) -> RecipeReading
     if !tables::rules::has_names(file, b"point,kind,op,takes,gives,then,else\n") {
         return reader::refused(Refusal::Names, 1);
     }
-    match tables::rules::check_lines(file, 7) {
+    let mut numbers = [0u32; 448];
+    match tables::rules::check_lines(file, 7, &mut numbers) {
         Form::Broken(n) => reader::refused(Refusal::Form, n + 2),
-        Form::Whole(count) => reader::read_lines(file, count),
+        Form::Whole(count) => reader::read_lines(&numbers, count),
     }
 }

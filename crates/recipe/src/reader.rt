@@ -1,11 +1,11 @@
-// The value lines of a recipe file that passed rules 1 and 2, read into a record.
+// The numbers of a recipe file that passed rules 1 and 2, read into a record.
 ghost use mathlib.Core.Path.{_≡_};
-ghost use mathlib.Core.Bool.{false};
-ghost use Prim.Native.Nat.{_<_, _≤_};
+ghost use mathlib.Core.List.{List};
+ghost use Prim.Native.Nat.{ℕ, _<_, _≤_};
 ghost use lib.ListN.{length};
 ghost use Rattle.refusals.specs.Verdict.{before};
 ghost use Rattle.tables.specs.Lines.{valueLines};
-ghost use Rattle.tables.specs.Table.{isBroken};
+ghost use Rattle.tables.specs.Reading.{Kept};
 ghost use Rattle.recipe.specs.Reader.{recipeOf, reading, noRecipe};
 ghost use Rattle.recipe.specs.Rules.{rule4, checkPoints, checkRecipe};
 use crate::Recipe;
@@ -47,10 +47,10 @@ fn judged(recipe: Recipe) -> RecipeReading
     }
 }
 
-// Rule 4 and the rest, over the numbers of the file: they are stored once they are in range.
-fn store_lines(file: &[u8], count: usize) -> RecipeReading
-    requires { ⌜ (isBroken 7 (now file) ≡ false) × (count ≡ length (valueLines (now file))) × (0 < count) × (count ≤ 64) ⌝ }
-    ensures { λ r. ⌜ r ≡ reading (before (rule4 (recipeOf (now (file .entry)))) (checkPoints (recipeOf (now (file .entry))))) (recipeOf (now (file .entry))) ⌝ }
+// Rule 4 and the rest, over the numbers that rule 2 kept: they are stored once they are in range.
+fn store_lines(numbers: &[u32], count: usize) -> RecipeReading
+    requires { ⌜ (448 ≤ length (now numbers)) × (0 < count) × (count ≤ 64) ⌝ }
+    ensures { λ r. ⌜ ((file : List ℕ) → count ≡ length (valueLines file) → Kept 7 file count (now (numbers .entry)) → r ≡ reading (before (rule4 (recipeOf file)) (checkPoints (recipeOf file))) (recipeOf file)) ⌝ }
 {
     let mut point = [0u8; 64];
     let mut kind = [0u8; 64];
@@ -59,30 +59,26 @@ fn store_lines(file: &[u8], count: usize) -> RecipeReading
     let mut gives = [0u8; 64];
     let mut then = [0u8; 64];
     let mut otherwise = [0u8; 64];
-    let mut at = tables::lines::next_line(file, 0);
     let mut i = 0;
     while i < count {
-        let line = tables::row::read_line(&file[at..], 7);
-        let numbers = line.values;
-        if !range::in_range(
-            numbers[0],
-            numbers[1],
-            numbers[2],
-            numbers[3],
-            numbers[4],
-            numbers[5],
-            numbers[6],
-        ) {
+        let at = i * 7;
+        let a = numbers[at];
+        let b = numbers[at + 1];
+        let c = numbers[at + 2];
+        let d = numbers[at + 3];
+        let e = numbers[at + 4];
+        let f = numbers[at + 5];
+        let g = numbers[at + 6];
+        if !range::in_range(a, b, c, d, e, f, g) {
             return refused(Refusal::Range, i + 2);
         }
-        point[i] = numbers[0] as u8;
-        kind[i] = numbers[1] as u8;
-        op[i] = numbers[2] as u8;
-        takes[i] = numbers[3] as u8;
-        gives[i] = numbers[4] as u8;
-        then[i] = numbers[5] as u8;
-        otherwise[i] = numbers[6] as u8;
-        at += line.length;
+        point[i] = a as u8;
+        kind[i] = b as u8;
+        op[i] = c as u8;
+        takes[i] = d as u8;
+        gives[i] = e as u8;
+        then[i] = f as u8;
+        otherwise[i] = g as u8;
         i += 1;
     }
     judged(Recipe {
@@ -97,13 +93,13 @@ fn store_lines(file: &[u8], count: usize) -> RecipeReading
     })
 }
 
-// Rule 3 and the rest.
-pub fn read_lines(file: &[u8], count: usize) -> RecipeReading
-    requires { ⌜ (isBroken 7 (now file) ≡ false) × (count ≡ length (valueLines (now file))) ⌝ }
-    ensures { λ r. ⌜ r ≡ reading (checkRecipe (recipeOf (now (file .entry)))) (recipeOf (now (file .entry))) ⌝ }
+// Rule 3 and the rest, for a file that passed rule 2 with so many lines.
+pub fn read_lines(numbers: &[u32], count: usize) -> RecipeReading
+    requires { ⌜ 448 ≤ length (now numbers) ⌝ }
+    ensures { λ r. ⌜ ((file : List ℕ) → count ≡ length (valueLines file) → Kept 7 file count (now (numbers .entry)) → r ≡ reading (checkRecipe (recipeOf file)) (recipeOf file)) ⌝ }
 {
     match refusals::check_count(count) {
-        Verdict::Accepted => store_lines(file, count),
+        Verdict::Accepted => store_lines(numbers, count),
         Verdict::Refused(refusal, line) => refused(refusal, line),
     }
 }

@@ -60,6 +60,7 @@ pub record Judges (k : ℕ) (f : List ℕ) (n at : ℕ) : Type 0 where
   pub broken : n + firstBroken k (lines (drop at f)) ≡ firstBroken k (valueLines f)
   pub count : n + length (lines (drop at f)) ≡ length (valueLines f)
   pub tail : unended (drop at f) ≡ unended (valueText f)
+  pub lines-are : lines (drop at f) ≡ drop n (valueLines f)
 
 pub judges-none : (k : ℕ) (f : List ℕ) (r : ℕ) → Next f 0 r → Judges k f 0 r
 unfolding valueLines valueText
@@ -70,6 +71,7 @@ judges-none k f r N =
       broken = ap (λ (t : List ℕ). 0 + firstBroken k (lines t)) (N .rest) ∙ omega arith;
       count = ap (λ (t : List ℕ). 0 + length (lines t)) (N .rest) ∙ omega arith;
       tail = ap unended (N .rest);
+      lines-are = ap lines (N .rest);
     }
 
 no-tail : unended [] ≡ []
@@ -107,6 +109,7 @@ module _ (k : ℕ) (f : List ℕ) (n at : ℕ) (J : Judges k f n at) where
           broken = omega (arith, b, J .broken);
           count = omega (arith, ap length ls, J .count);
           tail = ap unended next ∙ sym (unended-past s (r .ended)) ∙ J .tail;
+          lines-are = sym (sym (ap (drop 1) (J .lines-are) ∙ drop-drop 1 n (valueLines f)) ∙ ap (drop 1) ls);
         }
 
     pub judges-broken : at < length f → L .length ≡ 0 → Broken n ≡ formOf k f

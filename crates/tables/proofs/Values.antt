@@ -1,50 +1,23 @@
--- The numbers of a value line in a file that passed rule 2, which a reader takes from line to line. Assumes nothing.
+-- What rule 2 finds, and the numbers that it keeps. Assumes nothing.
 use mathlib.Core.Path.{_≡_, refl, sym, ap, _∙_}
 use mathlib.Core.Bool.{Bool, true, false, cond}
-use mathlib.Core.List.{List, [], _∷_}
-use Prim.Native.Nat.{ℕ, zero, suc, _+_, _-_, _<_, _≤_}
+use mathlib.Core.List.{List, [], _∷_, _++_, append-assoc}
+use Prim.Native.Nat.{ℕ, zero, suc, _+_, _*_, _<_, _≤_}
+use native.Mathlib.Decide.{decLt}
 use native.Mathlib.Omega.{arith}
-use lib.Dec.{eqb}
-use lib.ListN.{length, getD, drop, replicate, length-map, length-drop, List·getD-append}
-use lib.Seq.{sets, sets-eq, getD-drop}
-use borrow.Author.Tests.{lt-ltb, ltb-false, eqb-true}
-use Rattle.refusals.proofs.Verdicts.{and-left, or-left}
+use lib.Dec.{eqb, ltb}
+use lib.ListN.{length, getD, take, drop, replicate, length-map, length-drop, List·getD-append}
+use lib.Seq.{sets, sets-eq, length-sets, length-take-le, getD-drop, getD-take, getD-append-add}
+use borrow.Author.Tests.{lt-ltb, le-ltb, eqb-true}
+use Rattle.refusals.proofs.Verdicts.{and-left}
 use Rattle.tables.specs.declared.Line.{Line}
 use Rattle.tables.specs.declared.Form.the-variants.{Whole, Broken}
 use Rattle.tables.specs.Lines.{upTo, past, lengthened, parted, ended, lines, valueText, valueLines}
 use Rattle.tables.specs.Numbers.{decimal, fields, isRow, numbers}
 use Rattle.tables.specs.Table.{firstBroken, isBroken, numberAt}
-use Rattle.tables.specs.Reading.{Next, has, startsRow, lineOf, formOf}
-use Rattle.tables.proofs.Pieces.{pieces, past-drop, lines-past, next-some}
-use Rattle.tables.proofs.Walk.{Stands, stands-next, starts-line}
-
--- before the first broken line each is k numbers
-row-at : (k : ℕ) (ls : List (List ℕ)) (i : ℕ) → i < firstBroken k ls → isRow k (getD ls i []) ≡ true
-unfolding firstBroken
-row-at k [] i low = absurd (omega arith)
-row-at k (l ∷ ls) zero low = judge (isRow k l) refl low
-  where
-    judge : (t : Bool) → isRow k l ≡ t → 0 < cond t (suc (firstBroken k ls)) 0 → isRow k l ≡ true
-    judge true e h = e
-    judge false e h = absurd (omega arith)
-row-at k (l ∷ ls) (suc i) low = judge (isRow k l) low (λ h. row-at k ls i h)
-  where
-    judge : (t : Bool) → suc i < cond t (suc (firstBroken k ls)) 0 → (i < firstBroken k ls → isRow k (getD ls i []) ≡ true) → isRow k (getD ls i []) ≡ true
-    judge true h rec = rec (omega arith)
-    judge false h rec = absurd (omega arith)
-
--- a file that passed rule 2: its lines are counted, and each is k numbers
-pub record Passed (k : ℕ) (f : List ℕ) (count : ℕ) : Type 0 where
-  pub count-is : count ≡ length (valueLines f)
-  pub rows : (i : ℕ) → i < count → isRow k (getD (valueLines f) i []) ≡ true
-
-pub passed : (k : ℕ) (f : List ℕ) (count : ℕ) → isBroken k f ≡ false → count ≡ length (valueLines f) → Passed k f count
-unfolding isBroken
-passed k f count whole count-is =
-    record {
-      count-is = count-is;
-      rows = λ i low. row-at k (valueLines f) i (omega (arith, ltb-false (firstBroken k (valueLines f)) (length (valueLines f)) (or-left _ _ whole)));
-    }
+use Rattle.tables.specs.Reading.{lineOf, formOf, seven, keptLine, Kept, Checked}
+use Rattle.tables.proofs.Pieces.{pieces, past-drop, lines-past}
+use Rattle.tables.proofs.Judged.{Judges, a-row}
 
 -- what rule 2 found
 pub whole : (k : ℕ) (f : List ℕ) (count : ℕ) → Whole count ≡ formOf k f → (isBroken k f ≡ false) × (count ≡ length (valueLines f))
@@ -97,34 +70,77 @@ row-length : (k : ℕ) (l : List ℕ) → isRow k l ≡ true → length (numbers
 unfolding isRow numbers
 row-length k l good = length-map (fields l) (decimal 0) ∙ eqb-true (length (fields l)) k (and-left _ _ good)
 
--- value line i at its place, as the line reader gives it
-pub record ValueLine (k : ℕ) (f : List ℕ) (i at : ℕ) (L : Line) : Type 0 where
-  pub inside : at + L .length ≤ length f
-  pub next : Stands f (i + 1) (at + L .length)
-  pub number : (j : ℕ) → j < k → getD (L .values) j 0 ≡ numberAt f j i
+-- the line at hand is value line n, and its numbers are the file's
+module _ (k : ℕ) (f : List ℕ) (n at : ℕ) (J : Judges k f n at) (L : Line) (is : L ≡ lineOf k (drop at f)) (some : L .length ≡ 0 → ⊥) (few : k ≤ 7) where
+  pub line-number : (j : ℕ) → j < k → getD (L .values) j 0 ≡ numberAt f j n
+  unfolding numberAt
+  line-number j less =
+      let r = a-row k (drop at f) L is some in
+      let l = upTo 10 (drop at f) in
+      let here : getD (valueLines f) n [] ≡ l =
+      sym (getD-drop n (valueLines f) 0 [] ∙ ap (λ (i : ℕ). getD (valueLines f) i []) (omega arith))
+      ∙ ap (λ (ls : List (List ℕ)). getD ls 0 []) (sym (J .lines-are) ∙ lines-past (drop at f) (r .ended)) in
+      let wide : length (numbers l) ≡ k = row-length k l (r .good) in
+      ap (λ (vs : List ℕ). getD vs j 0) (r .values-are ∙ sets-eq (numbers l) (replicate 7 0) 0 (omega arith))
+      ∙ List·getD-append (numbers l) (drop (0 + length (numbers l)) (replicate 7 0)) 0 j (omega arith)
+      ∙ ap (λ (t : List ℕ). getD (numbers t) j 0) (sym here)
 
-pub value-line : (k : ℕ) (f : List ℕ) (count i at : ℕ) (L : Line) → k ≤ 7 → Passed k f count → i < count → Stands f i at → L ≡ lineOf k (drop at f)
-    → ValueLine k f i at L
-unfolding numberAt lineOf startsRow has
-value-line k f count i at L few P low S is =
-    let left : length (lines (drop at f)) ≡ length (valueLines f) - i = ap length (S .lines-are) ∙ length-drop i (valueLines f) in
-    let ended : length (upTo 10 (drop at f)) < length (drop at f) = starts-line (drop at f) (omega (arith, P .count-is)) in
-    let here : getD (valueLines f) i [] ≡ upTo 10 (drop at f) =
-    sym (getD-drop i (valueLines f) 0 [] ∙ ap (λ (n : ℕ). getD (valueLines f) n []) (omega arith))
-    ∙ ap (λ (l : List (List ℕ)). getD l 0 []) (sym (S .lines-are) ∙ lines-past (drop at f) ended) in
-    let good : isRow k (upTo 10 (drop at f)) ≡ true = ap (isRow k) (sym here) ∙ P .rows i low in
-    let line : L ≡ record { length = suc (length (upTo 10 (drop at f))); values = sets (replicate 7 0) 0 (numbers (upTo 10 (drop at f))) } =
-    is ∙ rw (lt-ltb (length (upTo 10 (drop at f))) (length (drop at f)) ended, good) in
-    let size : at + L .length ≡ at + length (upTo 10 (drop at f)) + 1 = ap (λ (M : Line). at + M .length) line ∙ omega arith in
-    let inside : at + length (upTo 10 (drop at f)) < length f = omega (arith, length-drop at f, S .within) in
-    let N : Next f at (at + L .length) = rw size (next-some f at (length (upTo 10 (drop at f))) (S .within) refl inside) in
-    record {
-      inside = N .within;
-      next = stands-next f i at S (at + L .length) N;
-      number = λ j less. value (numbers (upTo 10 (drop at f))) (ap (λ (M : Line). M .values) line) (row-length k (upTo 10 (drop at f)) good) j less ∙ ap (λ (l : List ℕ). getD (numbers l) j 0) (sym here);
-    }
+-- stores of some values in a row: what stands among them, and what stands before
+stored-in : (l vs : List ℕ) (at j : ℕ) → at + length vs ≤ length l → j < length vs → getD (sets l at vs) (at + j) 0 ≡ getD vs j 0
+stored-in l vs at j room low =
+    let front : length (take at l) ≡ at = length-take-le at l (omega arith) in
+    ap (λ (t : List ℕ). getD t (at + j) 0) (sets-eq vs l at room ∙ append-assoc (take at l) vs (drop (at + length vs) l))
+    ∙ ap (λ (i : ℕ). getD (take at l ++ (vs ++ drop (at + length vs) l)) (i + j) 0) (sym front)
+    ∙ getD-append-add (take at l) (vs ++ drop (at + length vs) l) j 0
+    ∙ List·getD-append vs (drop (at + length vs) l) 0 j low
+
+stored-under : (l vs : List ℕ) (at p : ℕ) → at + length vs ≤ length l → p < at → getD (sets l at vs) p 0 ≡ getD l p 0
+stored-under l vs at p room low =
+    let front : length (take at l) ≡ at = length-take-le at l (omega arith) in
+    ap (λ (t : List ℕ). getD t p 0) (sets-eq vs l at room ∙ append-assoc (take at l) vs (drop (at + length vs) l))
+    ∙ List·getD-append (take at l) (vs ++ drop (at + length vs) l) 0 p (omega arith)
+    ∙ getD-take at l p 0 low
+
+pub kept-none : (k : ℕ) (f store : List ℕ) → Kept k f 0 store
+kept-none k f store = record { number = λ i j low few less. absurd (omega arith) }
+
+pub kept-length : (store : List ℕ) (n : ℕ) (vs : List ℕ) → length (keptLine store n vs) ≡ length store
+unfolding keptLine
+kept-length store n vs = judge (ltb n 64)
   where
-    value : (ns : List ℕ) → L .values ≡ sets (replicate 7 0) 0 ns → length ns ≡ k → (j : ℕ) → j < k → getD (L .values) j 0 ≡ getD ns j 0
-    value ns e n j less =
-        ap (λ (l : List ℕ). getD l j 0) (e ∙ sets-eq ns (replicate 7 0) 0 (omega arith))
-        ∙ List·getD-append ns (drop (0 + length ns) (replicate 7 0)) 0 j (omega arith)
+    judge : (t : Bool) → length (cond t (sets store (n * 7) (seven vs)) store) ≡ length store
+    judge true = length-sets store (n * 7) (seven vs)
+    judge false = refl
+
+-- one line more
+pub kept-more : (k : ℕ) (f : List ℕ) (n : ℕ) (store vs : List ℕ) → k ≤ 7 → 448 ≤ length store → Kept k f n store
+    → ((j : ℕ) → j < k → getD vs j 0 ≡ numberAt f j n)
+    → Kept k f (n + 1) (keptLine store n vs)
+unfolding keptLine
+kept-more k f n store vs few room K line = record { number = λ i j low small less. place i j low small less (decLt i n) (decLt n 64) }
+  where
+    among : (j : ℕ) → j < 7 → getD (seven vs) j 0 ≡ getD vs j 0
+    among zero h = refl
+    among (suc zero) h = refl
+    among (suc (suc zero)) h = refl
+    among (suc (suc (suc zero))) h = refl
+    among (suc (suc (suc (suc zero)))) h = refl
+    among (suc (suc (suc (suc (suc zero))))) h = refl
+    among (suc (suc (suc (suc (suc (suc zero)))))) h = refl
+    among (suc (suc (suc (suc (suc (suc (suc j))))))) h = absurd (omega arith)
+
+    place : (i j : ℕ) → i < n + 1 → i < 64 → j < k → Dec (i < n) → Dec (n < 64) → getD (cond (ltb n 64) (sets store (n * 7) (seven vs)) store) (i * 7 + j) 0 ≡ numberAt f j i
+    place i j low small less (yes before) (yes inside) =
+        rw (lt-ltb n 64 inside) (stored-under store (seven vs) (n * 7) (i * 7 + j) (omega arith) (omega arith) ∙ K .number i j before small less)
+    place i j low small less (yes before) (no past) = rw (le-ltb n 64 (omega arith)) (K .number i j before small less)
+    place i j low small less (no here) q =
+        let e : i ≡ n = omega arith in
+        rw (e, lt-ltb n 64 (omega arith)) (stored-in store (seven vs) (n * 7) j (omega arith) (omega arith) ∙ among j (omega arith) ∙ line j less)
+
+pub checked-broken : (k : ℕ) (f : List ℕ) (n : ℕ) (store : List ℕ) → Broken n ≡ formOf k f → Checked k f (Broken n) store
+checked-broken k f n store e =
+    record { form-is = e; kept = λ (count : ℕ) (w : Broken n ≡ Whole count). let z : _≡_ {A = ℕ} 0 1 = cc in absurd (omega arith) }
+
+pub checked-whole : (k : ℕ) (f : List ℕ) (n : ℕ) (store : List ℕ) → Whole n ≡ formOf k f → Kept k f n store → Checked k f (Whole n) store
+checked-whole k f n store e K =
+    record { form-is = e; kept = λ (count : ℕ) (w : Whole n ≡ Whole count). let same : n ≡ count = cc in rw same at K }

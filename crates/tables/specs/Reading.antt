@@ -2,7 +2,7 @@
 use mathlib.Core.Path.{_≡_}
 use mathlib.Core.Bool.{Bool, cond, _&&_}
 use mathlib.Core.List.{List, [], _∷_}
-use Prim.Native.Nat.{ℕ, suc, _+_, _<_, _≤_}
+use Prim.Native.Nat.{ℕ, suc, _+_, _*_, _<_, _≤_}
 use lib.ListN.{length, getD, take, drop, replicate}
 use lib.Seq.{sets}
 use lib.Dec.{eqb, ltb}
@@ -13,7 +13,7 @@ use Rattle.tables.specs.declared.Form.the-variants.{Whole, Broken}
 use Rattle.tables.specs.declared.Span.{Span}
 use Rattle.tables.specs.Lines.{upTo, past, valueLines, lineStart, shownLine}
 use Rattle.tables.specs.Numbers.{isDigit, isNumber, decimal, isRow, numbers}
-use Rattle.tables.specs.Table.{firstBroken, isBroken}
+use Rattle.tables.specs.Table.{firstBroken, isBroken, numberAt}
 
 -- the byte x stands in the text
 unfoldable pub has : ℕ → List ℕ → Bool
@@ -66,3 +66,21 @@ pub record Next (file : List ℕ) (at r : ℕ) : Type 0 where
   pub within : r ≤ length file
   pub rest : drop r file ≡ past 10 (drop at file)
   pub moved : length (upTo 10 (drop at file)) < length (drop at file) → r ≡ at + length (upTo 10 (drop at file)) + 1
+
+-- the numbers in the seven places of a line
+abbrev pub seven : List ℕ → List ℕ
+seven values =
+    getD values 0 0 ∷ getD values 1 0 ∷ getD values 2 0 ∷ getD values 3 0 ∷ getD values 4 0 ∷ getD values 5 0 ∷ getD values 6 0 ∷ []
+
+-- line n put into a store of seven places a line; a line past the 64th is not kept
+unfoldable pub keptLine : List ℕ → ℕ → List ℕ → List ℕ
+keptLine store n values = cond (ltb n 64) (sets store (n * 7) (seven values)) store
+
+-- the store has the k numbers of each of the first `count` value lines, as far as the 64th
+pub record Kept (k : ℕ) (file : List ℕ) (count : ℕ) (store : List ℕ) : Type 0 where
+  pub number : (i j : ℕ) → i < count → i < 64 → j < k → getD store (i * 7 + j) 0 ≡ numberAt file j i
+
+-- what rule 2 finds in a file, and what it leaves in the store
+pub record Checked (k : ℕ) (file : List ℕ) (form : Form) (store : List ℕ) : Type 0 where
+  pub form-is : form ≡ formOf k file
+  pub kept : (count : ℕ) → form ≡ Whole count → Kept k file count store
