@@ -13,6 +13,7 @@ unfoldable pub rowsOf : (ℕ → List ℕ) → ℕ → List ℕ
 rowsOf row zero = []
 rowsOf row (suc n) = rowsOf row n ++ row n
 
+-- a line of a cell record, "`resource, from, act, arg, to`"
 unfoldable pub cellRow : Cell → ℕ → List ℕ
 cellRow c n = getD (c .resource) n 0 ∷ getD (c .from) n 0 ∷ getD (c .act) n 0 ∷ getD (c .arg) n 0 ∷ getD (c .to) n 0 ∷ []
 
@@ -20,6 +21,7 @@ cellRow c n = getD (c .resource) n 0 ∷ getD (c .from) n 0 ∷ getD (c .act) n 
 unfoldable pub cellBytes : Cell → List ℕ
 cellBytes c = c .count ∷ rowsOf (cellRow c) 64
 
+-- a line of a recipe record, "`point, kind, op, takes, gives, then, else`"
 unfoldable pub recipeRow : Recipe → ℕ → List ℕ
 recipeRow r n = getD (r .point) n 0 ∷ getD (r .kind) n 0 ∷ getD (r .op) n 0 ∷ getD (r .takes) n 0 ∷ getD (r .gives) n 0 ∷ getD (r .then) n 0 ∷ getD (r .otherwise) n 0 ∷ []
 

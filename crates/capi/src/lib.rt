@@ -11,7 +11,8 @@ ghost use Rattle.capi.specs.Answer.{Answered};
 use refusals::Refusal;
 use refusals::Verdict;
 
-// A verdict as one number: the refusal and 256 times the line, 0 if accepted.
+// A verdict as one number: the refusal and 256 times the line, 0 if accepted. The line is taken
+// modulo 2 ^ 56, so that it fits for any file.
 fn code(verdict: Verdict) -> u64
     ensures { λ r. ⌜ r ≡ codeOf verdict ⌝ }
 {

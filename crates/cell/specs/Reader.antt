@@ -42,5 +42,6 @@ unfoldable pub reading : Verdict → Cell → CellReading
 reading Accepted cell = record { verdict = Accepted; cell = cell }
 reading (Refused refusal line) cell = record { verdict = Refused refusal line; cell = noCell }
 
+-- "A cell file .. gets the plan or move it deserves or the first refusal of document 01's list that fits": what the reader returns
 unfoldable pub readCell : List ℕ → CellReading
 readCell file = reading (judgeCell file) (cellOf file)

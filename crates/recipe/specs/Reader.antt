@@ -53,5 +53,6 @@ unfoldable pub reading : Verdict → Recipe → RecipeReading
 reading Accepted recipe = record { verdict = Accepted; recipe = recipe }
 reading (Refused refusal line) recipe = record { verdict = Refused refusal line; recipe = noRecipe }
 
+-- "a recipe file .. gets the plan or move it deserves or the first refusal of document 01's list that fits": what the reader returns
 unfoldable pub readRecipe : List ℕ → RecipeReading
 readRecipe file = reading (judgeRecipe file) (recipeOf file)

@@ -49,6 +49,7 @@ unended file = last (parted 10 file)
 unfoldable pub valueText : List ℕ → List ℕ
 valueText file = past 10 file
 
+-- "Then come 1 to 64 value lines": the lines after the names line, however many
 unfoldable pub valueLines : List ℕ → List (List ℕ)
 valueLines file = lines (valueText file)
 

@@ -10,6 +10,7 @@ use Rattle.tables.specs.Lines.{parted}
 unfoldable pub isDigit : ℕ → Bool
 isDigit b = leb 48 b && leb b 57
 
+-- the text has no other byte than digits
 unfoldable pub areDigits : List ℕ → Bool
 areDigits [] = true
 areDigits (b ∷ text) = isDigit b && areDigits text
@@ -27,6 +28,7 @@ decimal n (b ∷ text) = decimal (n * 10 + (b - 48)) text
 unfoldable pub fields : List ℕ → List (List ℕ)
 fields line = parted 44 line
 
+-- each field is a number
 unfoldable pub areNumbers : List (List ℕ) → Bool
 areNumbers [] = true
 areNumbers (field ∷ rest) = isNumber field && areNumbers rest

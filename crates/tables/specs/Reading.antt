@@ -1,4 +1,5 @@
--- What the reader's own steps find: a number and a line at the start of a text. Assumes nothing.
+-- What the reader's own steps find: a number and a line at the start of a text, the next line, what rule 2 keeps. Only the
+-- contracts of these steps cite it; what a reader returns is defined without it. Assumes nothing.
 use mathlib.Core.Path.{_≡_}
 use mathlib.Core.Bool.{Bool, cond, _&&_}
 use mathlib.Core.List.{List, [], _∷_}
