@@ -1,5 +1,6 @@
--- The order of the points, the halves of sums, what a reader has stored, and what an accepted record has.
+-- The order of the points, the parts of sums, the rules in groups, what a reader has stored, and what an accepted record has.
 pub mod Order
-mod Halves
+mod Sums
+mod Grouped
 mod Stored
 pub mod Accepted

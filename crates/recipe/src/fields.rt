@@ -3,6 +3,7 @@ ghost use mathlib.Core.Path.{_≡_};
 ghost use Prim.Native.Nat.{_≤_};
 ghost use Rattle.refusals.specs.Search.{firstBelow};
 ghost use Rattle.recipe.specs.Rules.{hasUnused, breaksUnused, lacksParts, breaksParts};
+use crate::Recipe;
 
 // Whether a field that the kind leaves unused isn't 0.
 fn has_unused(kind: u8, op: u8, takes: u8, gives: u8, then: u8, otherwise: u8) -> bool
@@ -31,26 +32,25 @@ fn has_unused(kind: u8, op: u8, takes: u8, gives: u8, then: u8, otherwise: u8) -
 }
 
 // The first line that breaks rule 9, or the count.
-pub fn first_unused(
-    kind: &[u8; 64],
-    op: &[u8; 64],
-    takes: &[u8; 64],
-    gives: &[u8; 64],
-    then: &[u8; 64],
-    otherwise: &[u8; 64],
-    count: usize,
-) -> usize
-    requires { ⌜ count ≤ 64 ⌝ }
-    ensures { λ r. ⌜ r ≡ firstBelow (breaksUnused (now (kind .entry)) (now (op .entry)) (now (takes .entry)) (now (gives .entry)) (now (then .entry)) (now (otherwise .entry))) count ⌝ }
+pub fn first_unused(recipe: Recipe) -> usize
+    requires { ⌜ recipe .count ≤ 64 ⌝ }
+    ensures { λ r. ⌜ r ≡ firstBelow (breaksUnused (recipe .kind) (recipe .op) (recipe .takes) (recipe .gives) (recipe .then) (recipe .otherwise)) (recipe .count) ⌝ }
 {
     let mut i = 0;
-    while i < count {
-        if has_unused(kind[i], op[i], takes[i], gives[i], then[i], otherwise[i]) {
+    while i < recipe.count {
+        if has_unused(
+            recipe.kind[i],
+            recipe.op[i],
+            recipe.takes[i],
+            recipe.gives[i],
+            recipe.then[i],
+            recipe.otherwise[i],
+        ) {
             return i;
         }
         i += 1;
     }
-    count
+    recipe.count
 }
 
 // Whether a test or a do names none of the parts that it must.
@@ -70,21 +70,16 @@ fn lacks_parts(kind: u8, takes: u8, gives: u8) -> bool
 }
 
 // The first line that breaks rule 10, or the count.
-pub fn first_without_parts(
-    kind: &[u8; 64],
-    takes: &[u8; 64],
-    gives: &[u8; 64],
-    count: usize,
-) -> usize
-    requires { ⌜ count ≤ 64 ⌝ }
-    ensures { λ r. ⌜ r ≡ firstBelow (breaksParts (now (kind .entry)) (now (takes .entry)) (now (gives .entry))) count ⌝ }
+pub fn first_without_parts(recipe: Recipe) -> usize
+    requires { ⌜ recipe .count ≤ 64 ⌝ }
+    ensures { λ r. ⌜ r ≡ firstBelow (breaksParts (recipe .kind) (recipe .takes) (recipe .gives)) (recipe .count) ⌝ }
 {
     let mut i = 0;
-    while i < count {
-        if lacks_parts(kind[i], takes[i], gives[i]) {
+    while i < recipe.count {
+        if lacks_parts(recipe.kind[i], recipe.takes[i], recipe.gives[i]) {
             return i;
         }
         i += 1;
     }
-    count
+    recipe.count
 }

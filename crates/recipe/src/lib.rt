@@ -8,8 +8,9 @@ mod targets;
 
 ghost use mathlib.Core.Path.{_≡_};
 ghost use Prim.Native.Nat.{_<_, _≤_};
+ghost use Rattle.refusals.specs.Verdict.{before};
 ghost use Rattle.recipe.specs.Reader.{readRecipe};
-ghost use Rattle.recipe.specs.Rules.{checkPoints, checkRecipe};
+ghost use Rattle.recipe.specs.Rules.{rule4, rule7, rule8, rule9, rule10, rule11, rule12, checkPoints, checkRecipe};
 use refusals::Refusal;
 use refusals::Verdict;
 use tables::Form;
@@ -33,71 +34,89 @@ pub struct RecipeReading {
     pub recipe: Recipe,
 }
 
-// Rules 7 to 12, on a record that passed rules 3 and 4.
-pub fn check_points(recipe: Recipe) -> Verdict
-    requires { ⌜ (0 < recipe .count) × (recipe .count ≤ 64) ⌝ }
-    ensures { λ r. ⌜ r ≡ checkPoints recipe ⌝ }
+// Rule 4, on a record that passed rule 3.
+fn check_ranges(recipe: Recipe) -> Verdict
+    requires { ⌜ recipe .count ≤ 64 ⌝ }
+    ensures { λ r. ⌜ r ≡ rule4 recipe ⌝ }
+{
+    let first = range::first_out_of_range(recipe);
+    refusals::at_line(Refusal::Range, first, recipe.count)
+}
+
+// Rules 7 and 8, on a record that passed rule 3.
+fn check_order(recipe: Recipe) -> Verdict
+    requires { ⌜ recipe .count ≤ 64 ⌝ }
+    ensures { λ r. ⌜ r ≡ before (rule7 recipe) (rule8 recipe) ⌝ }
 {
     let count = recipe.count;
     let point = recipe.point;
     let kind = recipe.kind;
-    let op = recipe.op;
-    let takes = recipe.takes;
-    let gives = recipe.gives;
     let then = recipe.then;
-    let otherwise = recipe.otherwise;
     let first = points::first_out_of_order(&point, count);
     if first < count {
         return Verdict::Refused(Refusal::PointOrder, first + 2);
     }
     let first = points::first_bad_repeat(&point, &kind, &then, count);
-    if first < count {
-        return Verdict::Refused(Refusal::RepeatedPoint, first + 2);
-    }
-    let first = fields::first_unused(&kind, &op, &takes, &gives, &then, &otherwise, count);
-    if first < count {
+    refusals::at_line(Refusal::RepeatedPoint, first, count)
+}
+
+// Rules 9 and 10, on a record that passed rule 3.
+fn check_fields(recipe: Recipe) -> Verdict
+    requires { ⌜ recipe .count ≤ 64 ⌝ }
+    ensures { λ r. ⌜ r ≡ before (rule9 recipe) (rule10 recipe) ⌝ }
+{
+    let first = fields::first_unused(recipe);
+    if first < recipe.count {
         return Verdict::Refused(Refusal::UnusedField, first + 2);
     }
-    let first = fields::first_without_parts(&kind, &takes, &gives, count);
-    if first < count {
-        return Verdict::Refused(Refusal::NoParts, first + 2);
-    }
+    let first = fields::first_without_parts(recipe);
+    refusals::at_line(Refusal::NoParts, first, recipe.count)
+}
+
+// Rules 11 and 12, on a record that passed rules 3 and 7: both count on the order of the points.
+fn check_parts(recipe: Recipe) -> Verdict
+    requires { ⌜ (0 < recipe .count) × (recipe .count ≤ 64) ⌝ }
+    requires { ⌜ rule7 recipe ≡ Verdict.Accepted ⌝ }
+    ensures { λ r. ⌜ r ≡ before (rule11 recipe) (rule12 recipe) ⌝ }
+{
+    let count = recipe.count;
+    let point = recipe.point;
+    let takes = recipe.takes;
+    let gives = recipe.gives;
     let first = parts::first_common(&point, &takes, &gives, count);
     if first < count {
         return Verdict::Refused(Refusal::CommonPart, first + 2);
     }
     let all = points::point_count(&point, count);
-    let first = targets::first_leading_out(all, &kind, &then, &otherwise, count);
+    let first = targets::first_leading_out(recipe, all);
     refusals::at_line(Refusal::TargetPoint, first, count)
+}
+
+// Rules 7 to 12, on a record that passed rules 3 and 4.
+pub fn check_points(recipe: Recipe) -> Verdict
+    requires { ⌜ (0 < recipe .count) × (recipe .count ≤ 64) ⌝ }
+    ensures { λ r. ⌜ r ≡ checkPoints recipe ⌝ }
+{
+    let ordered = check_order(recipe);
+    let Verdict::Accepted = ordered else {
+        return ordered;
+    };
+    let filled = check_fields(recipe);
+    let Verdict::Accepted = filled else {
+        return filled;
+    };
+    check_parts(recipe)
 }
 
 // Rules 3, 4 and 7 to 12 on a record handed in, whatever is in it.
 pub fn check_recipe(recipe: Recipe) -> Verdict
     ensures { λ r. ⌜ r ≡ checkRecipe recipe ⌝ }
 {
-    let count = recipe.count;
-    let counted = refusals::check_count(count);
+    let counted = refusals::check_count(recipe.count);
     let Verdict::Accepted = counted else {
         return counted;
     };
-    let point = recipe.point;
-    let kind = recipe.kind;
-    let op = recipe.op;
-    let takes = recipe.takes;
-    let gives = recipe.gives;
-    let then = recipe.then;
-    let otherwise = recipe.otherwise;
-    let first = range::first_out_of_range(
-        &point,
-        &kind,
-        &op,
-        &takes,
-        &gives,
-        &then,
-        &otherwise,
-        count,
-    );
-    let ranged = refusals::at_line(Refusal::Range, first, count);
+    let ranged = check_ranges(recipe);
     let Verdict::Accepted = ranged else {
         return ranged;
     };

@@ -1,61 +1,37 @@
 // Rule 11: the parts that two lines of a point both take, or both give.
 ghost use mathlib.Core.Path.{_≡_};
-ghost use mathlib.Core.Bool.{_&&_};
-ghost use Prim.Native.Nat.{_%_, _<_, _≤_};
-ghost use lib.Dec.{eqb};
-ghost use Rattle.refusals.specs.Search.{firstBelow, anyBelow};
-ghost use Rattle.recipe.specs.Rules.{common, sharesPart, breaksCommon};
+ghost use mathlib.Core.Bool.{_||_};
+ghost use Prim.Native.Nat.{_+_, _<_, _≤_};
+ghost use Rattle.refusals.specs.Search.{firstBelow};
+ghost use Rattle.recipe.specs.Rules.{common, breaksCommon, breaksOrder};
+use crate::points;
 
-// Whether both sums hold part 0.
-fn both_odd(a: u8, b: u8) -> bool
-    ensures { λ r. ⌜ r ≡ (eqb (a % 2) 1 && eqb (b % 2) 1) ⌝ }
-{
-    if a % 2 != 1 {
-        return false;
-    }
-    b % 2 == 1
-}
-
-// Whether two sums have a part in common. Halving both makes the next part their part 0.
-pub fn common(a: u8, b: u8) -> bool
+// Whether two sums have a part in common.
+fn common(a: u8, b: u8) -> bool
     ensures { λ r. ⌜ r ≡ common a b ⌝ }
 {
-    let mut x = a;
-    let mut y = b;
-    let mut part: usize = 0;
-    while part < 8 {
-        if both_odd(x, y) {
-            return true;
-        }
-        x /= 2;
-        y /= 2;
-        part += 1;
-    }
-    false
+    a & b != 0
 }
 
-// Whether line k is of line n's point and takes, or gives, a part that line n does.
-fn shares(point: &[u8; 64], takes: &[u8; 64], gives: &[u8; 64], n: usize, k: usize) -> bool
-    requires { ⌜ (n < 64) × (k < 64) ⌝ }
-    ensures { λ r. ⌜ r ≡ sharesPart (now (point .entry)) (now (takes .entry)) (now (gives .entry)) n k ⌝ }
+// Whether two lines both take, or both give, a common part.
+fn shares(takes: u8, gives: u8, takes2: u8, gives2: u8) -> bool
+    ensures { λ r. ⌜ r ≡ (common takes takes2 || common gives gives2) ⌝ }
 {
-    if point[k] != point[n] {
-        return false;
-    }
-    if common(takes[n], takes[k]) {
+    if common(takes, takes2) {
         return true;
     }
-    common(gives[n], gives[k])
+    common(gives, gives2)
 }
 
-// Whether line n breaks rule 11 with an earlier line.
+// Whether line n breaks rule 11 with an earlier line, which is one of its point.
 fn shares_before(point: &[u8; 64], takes: &[u8; 64], gives: &[u8; 64], n: usize) -> bool
     requires { ⌜ n < 64 ⌝ }
+    requires { ⌜ firstBelow (breaksOrder (now point)) (n + 1) ≡ n + 1 ⌝ }
     ensures { λ r. ⌜ r ≡ breaksCommon (now (point .entry)) (now (takes .entry)) (now (gives .entry)) n ⌝ }
 {
-    let mut k = 0;
+    let mut k = points::point_start(point, n);
     while k < n {
-        if shares(point, takes, gives, n, k) {
+        if shares(takes[n], gives[n], takes[k], gives[k]) {
             return true;
         }
         k += 1;
@@ -66,6 +42,7 @@ fn shares_before(point: &[u8; 64], takes: &[u8; 64], gives: &[u8; 64], n: usize)
 // The first line that breaks rule 11, or the count.
 pub fn first_common(point: &[u8; 64], takes: &[u8; 64], gives: &[u8; 64], count: usize) -> usize
     requires { ⌜ count ≤ 64 ⌝ }
+    requires { ⌜ firstBelow (breaksOrder (now point)) count ≡ count ⌝ }
     ensures { λ r. ⌜ r ≡ firstBelow (breaksCommon (now (point .entry)) (now (takes .entry)) (now (gives .entry))) count ⌝ }
 {
     let mut i = 0;

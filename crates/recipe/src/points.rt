@@ -1,10 +1,10 @@
 // Rules 7 and 8: the order of the points, and the lines that share one.
 ghost use mathlib.Core.Path.{_≡_};
-ghost use mathlib.Core.Bool.{_||_};
-ghost use Prim.Native.Nat.{_+_, _<_, _≤_};
-ghost use lib.Dec.{eqb};
-ghost use Rattle.refusals.specs.Search.{firstBelow, anyBelow, countBelow};
-ghost use Rattle.recipe.specs.Rules.{breaksOrder, samePoint, clashes, breaksRepeat, pointCount};
+ghost use mathlib.Core.Bool.{not, _&&_, _||_};
+ghost use Prim.Native.Nat.{ℕ, _+_, _<_, _≤_};
+ghost use lib.Dec.{eqb, leb};
+ghost use Rattle.refusals.specs.Search.{firstBelow};
+ghost use Rattle.recipe.specs.Rules.{breaksOrder, samePoint, breaksRepeat, pointCount};
 
 // One more than a point, which a byte may not hold.
 fn one_more(point: u8) -> usize
@@ -58,68 +58,56 @@ pub fn point_count(point: &[u8; 64], count: usize) -> usize
     one_more(point[count - 1])
 }
 
-// Whether line k is of line n's point and may not stand with it.
-fn clash(point: &[u8; 64], kind: &[u8; 64], then: &[u8; 64], n: usize, k: usize) -> bool
-    requires { ⌜ (n < 64) × (k < 64) ⌝ }
-    ensures { λ r. ⌜ r ≡ clashes (now (point .entry)) (now (kind .entry)) (now (then .entry)) n k ⌝ }
+// The first line of line n's point. Up to line n rule 7 has passed, so the lines of a point stand together.
+pub fn point_start(point: &[u8; 64], n: usize) -> usize
+    requires { ⌜ n < 64 ⌝ }
+    requires { ⌜ firstBelow (breaksOrder (now point)) (n + 1) ≡ n + 1 ⌝ }
+    ensures { λ r. ⌜ (r ≤ n) × ((k : ℕ) → k < n → samePoint (now (point .entry)) n k ≡ leb r k) ⌝ }
 {
-    if point[k] != point[n] {
-        return false;
+    let mut start = n;
+    while 0 < start {
+        if point[start - 1] != point[n] {
+            return start;
+        }
+        start -= 1;
     }
-    if kind[n] != 1 {
-        return true;
-    }
-    if kind[k] != 1 {
-        return true;
-    }
-    then[n] != then[k]
+    0
 }
 
-// Whether line n clashes with an earlier line.
-fn clashes_before(point: &[u8; 64], kind: &[u8; 64], then: &[u8; 64], n: usize) -> bool
-    requires { ⌜ n < 64 ⌝ }
-    ensures { λ r. ⌜ r ≡ anyBelow (clashes (now (point .entry)) (now (kind .entry)) (now (then .entry)) n) n ⌝ }
+// Whether two lines of a point, by their kinds and their `then`, may not stand together.
+fn clash(kind: u8, then: u8, kind2: u8, then2: u8) -> bool
+    ensures { λ r. ⌜ r ≡ not (eqb kind 1 && (eqb kind2 1 && eqb then then2)) ⌝ }
 {
-    let mut k = 0;
+    if kind != 1 {
+        return true;
+    }
+    if kind2 != 1 {
+        return true;
+    }
+    then != then2
+}
+
+// Whether line n breaks rule 8. Only the lines from its point's first on can clash with it, and they are its repeats.
+fn bad_repeat(point: &[u8; 64], kind: &[u8; 64], then: &[u8; 64], n: usize) -> bool
+    requires { ⌜ n < 64 ⌝ }
+    requires { ⌜ firstBelow (breaksOrder (now point)) (n + 1) ≡ n + 1 ⌝ }
+    ensures { λ r. ⌜ r ≡ breaksRepeat (now (point .entry)) (now (kind .entry)) (now (then .entry)) n ⌝ }
+{
+    let start = point_start(point, n);
+    let mut k = start;
     while k < n {
-        if clash(point, kind, then, n, k) {
+        if clash(kind[n], then[n], kind[k], then[k]) {
             return true;
         }
         k += 1;
     }
-    false
-}
-
-// How many earlier lines are of line n's point.
-fn repeats(point: &[u8; 64], n: usize) -> usize
-    requires { ⌜ n < 64 ⌝ }
-    ensures { λ r. ⌜ r ≡ countBelow (samePoint (now (point .entry)) n) n ⌝ }
-{
-    let mut found = 0;
-    let mut k = 0;
-    while k < n {
-        if point[k] == point[n] {
-            found += 1;
-        }
-        k += 1;
-    }
-    found
-}
-
-// Whether line n breaks rule 8.
-fn bad_repeat(point: &[u8; 64], kind: &[u8; 64], then: &[u8; 64], n: usize) -> bool
-    requires { ⌜ n < 64 ⌝ }
-    ensures { λ r. ⌜ r ≡ breaksRepeat (now (point .entry)) (now (kind .entry)) (now (then .entry)) n ⌝ }
-{
-    if clashes_before(point, kind, then, n) {
-        return true;
-    }
-    4 <= repeats(point, n)
+    4 <= n - start
 }
 
 // The first line that breaks rule 8, or the count.
 pub fn first_bad_repeat(point: &[u8; 64], kind: &[u8; 64], then: &[u8; 64], count: usize) -> usize
     requires { ⌜ count ≤ 64 ⌝ }
+    requires { ⌜ firstBelow (breaksOrder (now point)) count ≡ count ⌝ }
     ensures { λ r. ⌜ r ≡ firstBelow (breaksRepeat (now (point .entry)) (now (kind .entry)) (now (then .entry))) count ⌝ }
 {
     let mut i = 0;

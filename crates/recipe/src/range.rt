@@ -3,6 +3,7 @@ ghost use mathlib.Core.Path.{_≡_};
 ghost use Prim.Native.Nat.{_≤_};
 ghost use Rattle.refusals.specs.Search.{firstBelow};
 ghost use Rattle.recipe.specs.Rules.{inRange, leavesRange};
+use crate::Recipe;
 
 // Whether the numbers of a line are each in its range; a reader asks before it stores them.
 pub fn in_range(
@@ -40,40 +41,48 @@ pub fn in_range(
     otherwise <= 15
 }
 
+// The same of the bytes of a record.
+fn bytes_in_range(
+    point: u8,
+    kind: u8,
+    op: u8,
+    takes: u8,
+    gives: u8,
+    then: u8,
+    otherwise: u8,
+) -> bool
+    ensures { λ r. ⌜ r ≡ inRange point kind op takes gives then otherwise ⌝ }
+{
+    in_range(
+        point as u32,
+        kind as u32,
+        op as u32,
+        takes as u32,
+        gives as u32,
+        then as u32,
+        otherwise as u32,
+    )
+}
+
 // The first line of which a number leaves its range, or the count.
-pub fn first_out_of_range(
-    point: &[u8; 64],
-    kind: &[u8; 64],
-    op: &[u8; 64],
-    takes: &[u8; 64],
-    gives: &[u8; 64],
-    then: &[u8; 64],
-    otherwise: &[u8; 64],
-    count: usize,
-) -> usize
-    requires { ⌜ count ≤ 64 ⌝ }
-    ensures { λ r. ⌜ r ≡ firstBelow (leavesRange (now (point .entry)) (now (kind .entry)) (now (op .entry)) (now (takes .entry)) (now (gives .entry)) (now (then .entry)) (now (otherwise .entry))) count ⌝ }
+pub fn first_out_of_range(recipe: Recipe) -> usize
+    requires { ⌜ recipe .count ≤ 64 ⌝ }
+    ensures { λ r. ⌜ r ≡ firstBelow (leavesRange (recipe .point) (recipe .kind) (recipe .op) (recipe .takes) (recipe .gives) (recipe .then) (recipe .otherwise)) (recipe .count) ⌝ }
 {
     let mut i = 0;
-    while i < count {
-        if !in_range(
-            wide(point[i]),
-            wide(kind[i]),
-            wide(op[i]),
-            wide(takes[i]),
-            wide(gives[i]),
-            wide(then[i]),
-            wide(otherwise[i]),
+    while i < recipe.count {
+        if !bytes_in_range(
+            recipe.point[i],
+            recipe.kind[i],
+            recipe.op[i],
+            recipe.takes[i],
+            recipe.gives[i],
+            recipe.then[i],
+            recipe.otherwise[i],
         ) {
             return i;
         }
         i += 1;
     }
-    count
-}
-
-fn wide(x: u8) -> u32
-    ensures { λ r. ⌜ r ≡ x ⌝ }
-{
-    x as u32
+    recipe.count
 }

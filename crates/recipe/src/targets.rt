@@ -3,6 +3,7 @@ ghost use mathlib.Core.Path.{_≡_};
 ghost use Prim.Native.Nat.{_≤_};
 ghost use Rattle.refusals.specs.Search.{firstBelow};
 ghost use Rattle.recipe.specs.Rules.{leadsOut, breaksTarget};
+use crate::Recipe;
 
 // Whether a line leads to a point that isn't there. An end leads nowhere.
 fn leads_out(points: usize, kind: u8, then: u8, otherwise: u8) -> bool
@@ -21,22 +22,16 @@ fn leads_out(points: usize, kind: u8, then: u8, otherwise: u8) -> bool
 }
 
 // The first line that breaks rule 12, or the count.
-pub fn first_leading_out(
-    points: usize,
-    kind: &[u8; 64],
-    then: &[u8; 64],
-    otherwise: &[u8; 64],
-    count: usize,
-) -> usize
-    requires { ⌜ count ≤ 64 ⌝ }
-    ensures { λ r. ⌜ r ≡ firstBelow (breaksTarget points (now (kind .entry)) (now (then .entry)) (now (otherwise .entry))) count ⌝ }
+pub fn first_leading_out(recipe: Recipe, points: usize) -> usize
+    requires { ⌜ recipe .count ≤ 64 ⌝ }
+    ensures { λ r. ⌜ r ≡ firstBelow (breaksTarget points (recipe .kind) (recipe .then) (recipe .otherwise)) (recipe .count) ⌝ }
 {
     let mut i = 0;
-    while i < count {
-        if leads_out(points, kind[i], then[i], otherwise[i]) {
+    while i < recipe.count {
+        if leads_out(points, recipe.kind[i], recipe.then[i], recipe.otherwise[i]) {
             return i;
         }
         i += 1;
     }
-    count
+    recipe.count
 }

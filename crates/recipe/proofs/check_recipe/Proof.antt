@@ -1,6 +1,6 @@
 use mathlib.Core.Path.{sym, _∙_}
-use Rattle.recipe.specs.Rules.{checkRecipe, rule4}
-use Rattle.refusals.proofs.Verdicts.{refuses, accepts, line, count-in-range}
+use Rattle.recipe.specs.Rules.{checkRecipe}
+use Rattle.refusals.proofs.Verdicts.{refuses, accepts, count-in-range}
 use borrow.Author.Needs.{needs}
 use Rattle.recipe.proofs.check_recipe.Statement.{statement}
 use Rattle.recipe.proofs.check_recipe.Tie as tie
@@ -18,15 +18,8 @@ returns : tie.Need-returns
 unfolding checkRecipe
 returns c = refuses _ (c .before .before .check-count .ensures) (c .enum-told2 .given .1)
 
-first-out-of-range-requires : tie.Need-first-out-of-range-requires
-first-out-of-range-requires c κs =
-    let told = c .before .before .before .before .before .before .before .before .before .before .before .before .before .before in
-    count-in-range _ (sym (told .before .before .check-count .ensures) ∙ told .enum-told .given .1) .most
-
-at-line-requires : tie.Need-at-line-requires
-at-line-requires c κs =
-    let told = c .before .before .before .before .before .before .before .before .before .before .before .before .before .before .before in
-    count-in-range _ (sym (told .before .before .check-count .ensures) ∙ told .enum-told .given .1) .most
+check-ranges-requires : tie.Need-check-ranges-requires
+check-ranges-requires c κs = count-in-range _ (sym (c .before .before .check-count .ensures) ∙ c .enum-told .given .1) .most
 
 enum-told-3 : tie.Need-enum-told-3
 enum-told-3 c = search needs
@@ -35,24 +28,15 @@ enum-told-4 : tie.Need-enum-told-4
 enum-told-4 c = search needs
 
 returns-2 : tie.Need-returns-2
-unfolding checkRecipe rule4
-returns-2 c =
-    let told = c .before .before .before .before .before .before .before .before .before .before .before .before .before .before .before .before .before .before in
-    accepts (told .before .before .check-count .ensures) (told .enum-told .given .1)
-    (refuses _ (line _ _ _ _ (c .before .before .before .first-out-of-range .ensures) (c .before .before .at-line .ensures)) (c .enum-told4 .given .1))
+unfolding checkRecipe
+returns-2 c = accepts (c .before .before .before .before .before .check-count .ensures) (c .before .before .before .enum-told .given .1) (refuses _ (c .before .before .check-ranges .ensures) (c .enum-told4 .given .1))
 
 check-points-requires : tie.Need-check-points-requires
-check-points-requires c κs =
-    let told = c .before .before .before .before .before .before .before .before .before .before .before .before .before .before .before .before .before .before in
-    let k = count-in-range _ (sym (told .before .before .check-count .ensures) ∙ told .enum-told .given .1) in (k .some, k .most)
+check-points-requires c κs = let k = count-in-range _ (sym (c .before .before .before .before .before .check-count .ensures) ∙ c .before .before .before .enum-told .given .1) in (k .some, k .most)
 
 returns-3 : tie.Need-returns-3
-unfolding checkRecipe rule4
-returns-3 c =
-    let told = c .before .before .before .before .before .before .before .before .before .before .before .before .before .before .before .before .before .before .before in
-    accepts (told .before .before .check-count .ensures) (told .enum-told .given .1)
-    (accepts (line _ _ _ _ (c .before .before .before .before .first-out-of-range .ensures) (c .before .before .before .at-line .ensures)) (c .before .enum-told3 .given .1)
-    (c .check-points .ensures))
+unfolding checkRecipe
+returns-3 c = accepts (c .before .before .before .before .before .before .check-count .ensures) (c .before .before .before .before .enum-told .given .1) (accepts (c .before .before .before .check-ranges .ensures) (c .before .enum-told3 .given .1) (c .check-points .ensures))
 
 pub check-recipe-spec : {M : Type 1} → statement M
 check-recipe-spec =
@@ -62,8 +46,7 @@ check-recipe-spec =
     enum-told
     enum-told-2
     returns
-    first-out-of-range-requires
-    at-line-requires
+    check-ranges-requires
     enum-told-3
     enum-told-4
     returns-2

@@ -2,17 +2,16 @@ use mathlib.Core.Path.{_≡_, refl, sym, _∙_}
 use Prim.Native.Nat.{_≤_, _-_}
 use native.Mathlib.Omega.{arith}
 use Rattle.refusals.specs.Search.{firstBelow}
-use Rattle.refusals.proofs.Scan.{first-more, first-hit}
+use Rattle.refusals.proofs.Scan.{first-more, first-hit, first-end}
 use Rattle.recipe.specs.Rules.{breaksUnused}
-use Rattle.refusals.proofs.Scan.{first-end}
 use Rattle.recipe.proofs.fields.first_unused.Statement.{statement}
 use Rattle.recipe.proofs.fields.first_unused.Tie as tie
 
 abbrev Inv-loop : tie.InvT-loop
-Inv-loop kind op takes gives then otherwise count i₀ i = (i ≤ count) × (firstBelow (breaksUnused kind op takes gives then otherwise) i ≡ i)
+Inv-loop recipe i₀ i = (i ≤ recipe .count) × (firstBelow (breaksUnused (recipe .kind) (recipe .op) (recipe .takes) (recipe .gives) (recipe .then) (recipe .otherwise)) i ≡ i)
 
 abbrev μ-loop : tie.MeasureT-loop
-μ-loop kind op takes gives then otherwise count i₀ i = count - i
+μ-loop recipe i₀ i = recipe .count - i
 
 loop-holds : tie.Need-loop-holds Inv-loop μ-loop
 unfolding firstBelow
@@ -37,7 +36,7 @@ element-copy-out-has-unused-6 : tie.Need-element-copy-out-has-unused-6 Inv-loop 
 element-copy-out-has-unused-6 c = omega arith
 
 has-unused-requires : tie.Need-has-unused-requires Inv-loop μ-loop
-has-unused-requires c κs = omega arith
+has-unused-requires c κs = tt
 
 returns : tie.Need-returns Inv-loop μ-loop
 unfolding breaksUnused

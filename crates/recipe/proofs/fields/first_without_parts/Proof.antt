@@ -2,17 +2,16 @@ use mathlib.Core.Path.{_≡_, refl, sym, _∙_}
 use Prim.Native.Nat.{_≤_, _-_}
 use native.Mathlib.Omega.{arith}
 use Rattle.refusals.specs.Search.{firstBelow}
-use Rattle.refusals.proofs.Scan.{first-more, first-hit}
+use Rattle.refusals.proofs.Scan.{first-more, first-hit, first-end}
 use Rattle.recipe.specs.Rules.{breaksParts}
-use Rattle.refusals.proofs.Scan.{first-end}
 use Rattle.recipe.proofs.fields.first_without_parts.Statement.{statement}
 use Rattle.recipe.proofs.fields.first_without_parts.Tie as tie
 
 abbrev Inv-loop : tie.InvT-loop
-Inv-loop kind takes gives count i₀ i = (i ≤ count) × (firstBelow (breaksParts kind takes gives) i ≡ i)
+Inv-loop recipe i₀ i = (i ≤ recipe .count) × (firstBelow (breaksParts (recipe .kind) (recipe .takes) (recipe .gives)) i ≡ i)
 
 abbrev μ-loop : tie.MeasureT-loop
-μ-loop kind takes gives count i₀ i = count - i
+μ-loop recipe i₀ i = recipe .count - i
 
 loop-holds : tie.Need-loop-holds Inv-loop μ-loop
 unfolding firstBelow
@@ -28,7 +27,7 @@ element-copy-out-lacks-parts-3 : tie.Need-element-copy-out-lacks-parts-3 Inv-loo
 element-copy-out-lacks-parts-3 c = omega arith
 
 lacks-parts-requires : tie.Need-lacks-parts-requires Inv-loop μ-loop
-lacks-parts-requires c κs = omega arith
+lacks-parts-requires c κs = tt
 
 returns : tie.Need-returns Inv-loop μ-loop
 unfolding breaksParts

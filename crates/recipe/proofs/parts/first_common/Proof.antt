@@ -1,3 +1,4 @@
+use Rattle.recipe.proofs.Order.{ordered-to}
 use mathlib.Core.Path.{_≡_, refl, sym, _∙_}
 use Prim.Native.Nat.{_≤_, _-_}
 use native.Mathlib.Omega.{arith}
@@ -19,7 +20,7 @@ unfolding firstBelow
 loop-holds c = (omega arith, refl)
 
 shares-before-requires : tie.Need-shares-before-requires Inv-loop μ-loop
-shares-before-requires c κs = omega arith
+shares-before-requires c κs = (omega arith, ordered-to _ _ (c .before .before .pre .1) _ (c .loop-test .taken))
 
 returns : tie.Need-returns Inv-loop μ-loop
 returns c = sym (first-hit _ _ _ (c .before .before .loop-test .taken) (c .before .before .before .loop .inv .1) (sym (c .before .shares-before .ensures) ∙ c .if1 .taken))

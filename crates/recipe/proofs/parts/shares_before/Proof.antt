@@ -1,31 +1,47 @@
-use Rattle.recipe.specs.Rules.{breaksCommon}
-use mathlib.Core.Path.{_≡_, refl, sym, _∙_}
+use mathlib.Core.Path.{_≡_, sym, _∙_}
 use mathlib.Core.Bool.{false}
 use Prim.Native.Nat.{_≤_, _-_}
 use native.Mathlib.Omega.{arith}
 use Rattle.refusals.specs.Search.{anyBelow}
-use Rattle.refusals.proofs.Scan.{any-more, any-hit}
-use Rattle.recipe.specs.Rules.{sharesPart}
-use Rattle.refusals.proofs.Scan.{any-end}
+use Rattle.refusals.proofs.Scan.{any-more, any-hit, any-end}
+use Rattle.recipe.specs.Rules.{breaksCommon, sharesPart}
+use Rattle.recipe.proofs.Order.{none-shares, shares-at}
 use Rattle.recipe.proofs.parts.shares_before.Statement.{statement}
 use Rattle.recipe.proofs.parts.shares_before.Tie as tie
 
 abbrev Inv-loop : tie.InvT-loop
-Inv-loop point takes gives n k₀ k = (k ≤ n) × (anyBelow (sharesPart point takes gives n) k ≡ false)
+Inv-loop point takes gives n k₀ k = (k₀ ≤ k) × (k ≤ n) × (anyBelow (sharesPart point takes gives n) k ≡ false)
 
 abbrev μ-loop : tie.MeasureT-loop
 μ-loop point takes gives n k₀ k = n - k
 
+point-start-requires : tie.Need-point-start-requires Inv-loop μ-loop
+point-start-requires c κs = c .pre
+
 loop-holds : tie.Need-loop-holds Inv-loop μ-loop
-unfolding anyBelow
-loop-holds c = (omega arith, refl)
+loop-holds c = let found = c .point-start .ensures in (omega arith, found .0, none-shares _ _ _ (found .0) (found .1) _ _)
+
+element-copy-out-shares : tie.Need-element-copy-out-shares Inv-loop μ-loop
+element-copy-out-shares c = omega arith
+
+element-copy-out-shares-2 : tie.Need-element-copy-out-shares-2 Inv-loop μ-loop
+element-copy-out-shares-2 c = omega arith
+
+element-copy-out-shares-3 : tie.Need-element-copy-out-shares-3 Inv-loop μ-loop
+element-copy-out-shares-3 c = omega arith
+
+element-copy-out-shares-4 : tie.Need-element-copy-out-shares-4 Inv-loop μ-loop
+element-copy-out-shares-4 c = omega arith
 
 shares-requires : tie.Need-shares-requires Inv-loop μ-loop
-shares-requires c κs = omega arith
+shares-requires c κs = tt
 
 returns : tie.Need-returns Inv-loop μ-loop
 unfolding breaksCommon
-returns c = sym (any-hit _ _ _ (c .before .before .loop-test .taken) (sym (c .before .shares .ensures) ∙ c .if1 .taken))
+returns c =
+    let turn = c .before .before .before .before .before .before in
+    let found = turn .before .before .point-start .ensures in
+    sym (any-hit _ _ _ (turn .loop-test .taken) (shares-at _ _ _ (found .0) (found .1) _ _ _ (turn .before .loop .inv .0) (turn .loop-test .taken) ∙ sym (c .before .shares .ensures) ∙ c .if1 .taken))
 
 add-k : tie.Need-add-k Inv-loop μ-loop
 add-k c = omega arith
@@ -34,11 +50,14 @@ loop-less : tie.Need-loop-less Inv-loop μ-loop
 loop-less c = omega arith
 
 loop-again : tie.Need-loop-again Inv-loop μ-loop
-loop-again c = (omega arith, any-more _ _ (c .before .before .before .loop .inv .1) (sym (c .before .shares .ensures) ∙ c .if1 .left))
+loop-again c =
+    let turn = c .before .before .before .before .before .before in
+    let found = turn .before .before .point-start .ensures in
+    (omega arith, omega arith, any-more _ _ (turn .before .loop .inv .2) (shares-at _ _ _ (found .0) (found .1) _ _ _ (turn .before .loop .inv .0) (turn .loop-test .taken) ∙ sym (c .before .shares .ensures) ∙ c .if1 .left))
 
 returns-2 : tie.Need-returns-2 Inv-loop μ-loop
 unfolding breaksCommon
-returns-2 c = any-end _ _ _ (c .before .loop .inv .0) (c .loop-test .left) (c .before .loop .inv .1)
+returns-2 c = any-end _ _ _ (c .before .loop .inv .1) (c .loop-test .left) (c .before .loop .inv .2)
 
 pub shares-before-spec : {M : Type 1} → statement M
 shares-before-spec =
@@ -46,7 +65,12 @@ shares-before-spec =
     (tie.spec
     Inv-loop
     μ-loop
+    point-start-requires
     loop-holds
+    element-copy-out-shares
+    element-copy-out-shares-2
+    element-copy-out-shares-3
+    element-copy-out-shares-4
     shares-requires
     returns
     add-k

@@ -1,18 +1,17 @@
+use native.Mathlib.Omega.{arith}
 use mathlib.Core.Path.{_≡_, refl, sym, _∙_}
 use Prim.Native.Nat.{_≤_, _-_}
-use native.Mathlib.Omega.{arith}
 use Rattle.refusals.specs.Search.{firstBelow}
-use Rattle.refusals.proofs.Scan.{first-more, first-hit}
+use Rattle.refusals.proofs.Scan.{first-more, first-hit, first-end}
 use Rattle.recipe.specs.Rules.{breaksTarget}
-use Rattle.refusals.proofs.Scan.{first-end}
 use Rattle.recipe.proofs.targets.first_leading_out.Statement.{statement}
 use Rattle.recipe.proofs.targets.first_leading_out.Tie as tie
 
 abbrev Inv-loop : tie.InvT-loop
-Inv-loop points kind then otherwise count i₀ i = (i ≤ count) × (firstBelow (breaksTarget points kind then otherwise) i ≡ i)
+Inv-loop points recipe i₀ i = (i ≤ recipe .count) × (firstBelow (breaksTarget points (recipe .kind) (recipe .then) (recipe .otherwise)) i ≡ i)
 
 abbrev μ-loop : tie.MeasureT-loop
-μ-loop points kind then otherwise count i₀ i = count - i
+μ-loop points recipe i₀ i = recipe .count - i
 
 loop-holds : tie.Need-loop-holds Inv-loop μ-loop
 unfolding firstBelow
@@ -28,7 +27,7 @@ element-copy-out-leads-out-3 : tie.Need-element-copy-out-leads-out-3 Inv-loop μ
 element-copy-out-leads-out-3 c = omega arith
 
 leads-out-requires : tie.Need-leads-out-requires Inv-loop μ-loop
-leads-out-requires c κs = omega arith
+leads-out-requires c κs = tt
 
 returns : tie.Need-returns Inv-loop μ-loop
 unfolding breaksTarget
