@@ -47,10 +47,10 @@ pub each-accepts : (c : Cell) → checkCell c ≡ Accepted → EachAccepts c
 unfolding checkCell
 each-accepts c e =
     record {
-      third = search first-accepts;
+      third = search (first-accepts, next-accepts);
       fourth = search (first-accepts, next-accepts);
       fifth = search (first-accepts, next-accepts);
-      sixth = search next-accepts;
+      sixth = search (first-accepts, next-accepts);
     }
 
 -- a reader's record has at most 64 lines, refused or not
