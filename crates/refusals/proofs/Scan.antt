@@ -1,15 +1,15 @@
 -- A search over the numbers below a bound, turn by turn: what a loop that counts up has shown, and what it shows next.
 -- Assumes nothing.
-use mathlib.Core.Path.{_≡_, refl, sym, _∙_, subst}
+use mathlib.Core.Path.{_≡_, refl, sym, subst}
 use mathlib.Core.Logic.{⊎-elim}
 use mathlib.Core.Bool.{Bool, true, false, cond, _||_}
-use Prim.Native.Nat.{ℕ, zero, suc, _+_, _<_, _≤_, max}
-use native.Mathlib.Nat.{le-of-suc-le-suc, eq-or-lt-of-le, not-suc-le-zero, le-max-left, le-max-right, max-eq-left, max-eq-right}
+use Prim.Native.Nat.{ℕ, zero, suc, _+_, _<_, _≤_}
+use native.Mathlib.Nat.{le-of-suc-le-suc, eq-or-lt-of-le, not-suc-le-zero, max-eq-left, max-eq-right}
 use native.Mathlib.Numerals.{add-one}
 use native.Mathlib.Omega.{arith}
 use lib.Dec.{eqb}
 use borrow.Author.Tests.{eq-eqb, ne-eqb}
-use Rattle.refusals.specs.Search.{firstBelow, anyBelow, countBelow, greatestBelow}
+use Rattle.refusals.specs.Search.{firstBelow, anyBelow, greatestBelow}
 
 module _ (f : ℕ → Bool) where
   pub any-more : (i : ℕ) → anyBelow f i ≡ false → f i ≡ false → anyBelow f (i + 1) ≡ false
@@ -31,14 +31,6 @@ module _ (f : ℕ → Bool) where
       or-true : (b t : Bool) → t ≡ true → (b || t) ≡ true
       or-true true t e = refl
       or-true false t e = e
-
-  -- what no number below n does, none of them does
-  pub any-none : (i n : ℕ) → i < n → anyBelow f n ≡ false → f i ≡ false
-  any-none i n low none = decide (f i) refl
-    where
-      decide : (b : Bool) → f i ≡ b → f i ≡ false
-      decide false e = e
-      decide true e = let z : true ≡ false = sym (any-hit i n low e) ∙ none in cc
 
   pub first-more : (i : ℕ) → firstBelow f i ≡ i → f i ≡ false → firstBelow f (i + 1) ≡ i + 1
   unfolding firstBelow
@@ -90,14 +82,6 @@ module _ (f : ℕ → Bool) where
       decide false e = e
       decide true e = absurd (omega (arith, first-at-most i n low e))
 
-  pub count-more : (i : ℕ) → f i ≡ true → countBelow f (i + 1) ≡ countBelow f i + 1
-  unfolding countBelow
-  count-more i here = rw (add-one i, here, add-one)
-
-  pub count-same : (i : ℕ) → f i ≡ false → countBelow f (i + 1) ≡ countBelow f i
-  unfolding countBelow
-  count-same i here = rw (add-one i, here)
-
 module _ (f : ℕ → ℕ) where
   pub greatest-more : (i : ℕ) → greatestBelow f i ≤ f i → greatestBelow f (i + 1) ≡ f i
   unfolding greatestBelow
@@ -106,15 +90,6 @@ module _ (f : ℕ → ℕ) where
   pub greatest-same : (i : ℕ) → f i ≤ greatestBelow f i → greatestBelow f (i + 1) ≡ greatestBelow f i
   unfolding greatestBelow
   greatest-same i h = rw (add-one i, max-eq-right h)
-
-  pub greatest-at : (i n : ℕ) → i < n → f i ≤ greatestBelow f n
-  unfolding greatestBelow
-  greatest-at i zero low = absurd (not-suc-le-zero low)
-  greatest-at i (suc n) low =
-      ⊎-elim
-      (λ e. subst (λ (m : ℕ). f m ≤ max (f n) (greatestBelow f n)) (sym e) (le-max-left (f n) (greatestBelow f n)))
-      (λ lt. omega (arith, greatest-at i n lt, le-max-right (f n) (greatestBelow f n)))
-      (eq-or-lt-of-le (le-of-suc-le-suc low))
 
 -- what a loop that counted up to n has shown: a search that found nothing before n
 pub first-all : (f : ℕ → Bool) (first n : ℕ) → first ≡ firstBelow f n → n ≤ first → firstBelow f n ≡ n
@@ -129,6 +104,3 @@ module _ (f : ℕ → Bool) (i n : ℕ) (low : i ≤ n) (high : n ≤ i) where
 
   pub any-end : anyBelow f i ≡ false → false ≡ anyBelow f n
   any-end h = sym (subst (λ (m : ℕ). anyBelow f m ≡ false) end h)
-
-  pub count-end : (found : ℕ) → found ≡ countBelow f i → found ≡ countBelow f n
-  count-end found h = subst (λ (m : ℕ). found ≡ countBelow f m) end h

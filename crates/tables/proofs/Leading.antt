@@ -9,7 +9,7 @@ use native.Mathlib.Omega.{arith}
 use lib.Dec.{leb}
 use lib.ListN.{length, getD, drop}
 use lib.Seq.{drop-cons, drop-length}
-use borrow.Author.Tests.{eq-eqb, ne-eqb, le-leb, lt-leb, lt-ltb, le-ltb, leb-true}
+use borrow.Author.Tests.{eq-eqb, ne-eqb, le-leb, lt-leb, lt-ltb, le-ltb}
 use Rattle.tables.specs.declared.Number.{Number}
 use Rattle.tables.specs.Numbers.{isDigit, areDigits, isNumber, decimal}
 use Rattle.tables.specs.Reading.{leading, numberOf, noNumber, startsField, fieldOf}
@@ -29,15 +29,6 @@ digit-high b h = both (leb 48 b)
 pub digit-is : (b : ℕ) → 48 ≤ b → b ≤ 57 → isDigit b ≡ true
 unfolding isDigit
 digit-is b h g = rw (le-leb 48 b h, le-leb b 57 g)
-
--- a digit is a byte from 48 to 57
-pub digit-bounds : (b : ℕ) → isDigit b ≡ true → (48 ≤ b) × (b ≤ 57)
-unfolding isDigit
-digit-bounds b e = split (leb 48 b) refl e
-  where
-    split : (t : Bool) → leb 48 b ≡ t → (t && leb b 57) ≡ true → (48 ≤ b) × (b ≤ 57)
-    split true h g = (leb-true 48 b h, leb-true b 57 g)
-    split false h g = absurd (false≢true g)
 
 pub leading-within : (s : List ℕ) → length (leading s) ≤ length s
 unfolding leading

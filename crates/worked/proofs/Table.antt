@@ -1,7 +1,6 @@
 -- The worked examples of document 01 marked ‡, one row each, and the two files that they start from. Each is computed.
 -- Assumes nothing.
 use mathlib.Core.Path.{_≡_, refl}
-use mathlib.Core.Bool.{Bool, true, false, cond, not, _&&_, _||_}
 use Rattle.refusals.specs.declared.Verdict.the-variants.{Accepted, Refused}
 use Rattle.refusals.specs.declared.Refusal.the-variants.{NoPartner}
 use Rattle.refusals.specs.Search.{firstBelow, anyBelow, countBelow, greatestBelow, tabulate}
