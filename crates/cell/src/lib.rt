@@ -2,7 +2,7 @@
 mod ports;
 mod range;
 mod reader;
-mod resources;
+pub mod resources;
 
 ghost use mathlib.Core.Path.{_≡_};
 ghost use Prim.Native.Nat.{_≤_};

@@ -1,7 +1,7 @@
 // The recipe: its record, the rules on a record, and its reader.
 mod fields;
 mod parts;
-mod points;
+pub mod points;
 mod range;
 mod reader;
 mod targets;

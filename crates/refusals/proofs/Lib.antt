@@ -2,3 +2,4 @@
 pub mod Scan
 pub mod Listed
 pub mod Verdicts
+pub mod Every

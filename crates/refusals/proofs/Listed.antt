@@ -2,13 +2,14 @@
 -- Assumes nothing.
 use mathlib.Core.Path.{_≡_, refl, sym, _∙_}
 use mathlib.Core.Logic.{⊎-elim}
-use mathlib.Core.List.{List, [], _∷_, _++_, append-assoc}
-use Prim.Native.Nat.{ℕ, zero, suc, _+_, _<_}
+use mathlib.Core.List.{List, [], _∷_, _++_, append-assoc, append-nil}
+use Prim.Native.Nat.{ℕ, zero, suc, _+_, _<_, _≤_}
 use native.Mathlib.Nat.{le-of-suc-le-suc, eq-or-lt-of-le, not-suc-le-zero}
+use native.Mathlib.Decide.{ℕ-discrete}
 use native.Mathlib.Numerals.{add-one}
 use native.Mathlib.Omega.{arith}
-use lib.ListN.{length, getD, set, drop, length-append, List·getD-append}
-use lib.Seq.{getD-at, set-at, drop-cons}
+use lib.ListN.{length, getD, set, drop, length-append, length-set, List·getD-append, drop-of-length-le}
+use lib.Seq.{getD-at, set-at, drop-cons, ext-getD, getD-set-same, getD-set-other}
 use Rattle.refusals.specs.Search.{tabulate}
 
 module _ (f : ℕ → ℕ) where
@@ -34,3 +35,28 @@ module _ (f : ℕ → ℕ) where
   fill d n low =
       rw (add-one n, drop-cons d n 0)
       (set-at (tabulate n f) (getD d n 0) (drop (suc n) d) (f n) n (length-tabulate n) ∙ sym (append-assoc (tabulate n f) (f n ∷ []) (drop (suc n) d)))
+
+  -- a list of which every value is stored
+  pub filled : (d : List ℕ) (n : ℕ) → length d ≤ n → tabulate n f ++ drop n d ≡ tabulate n f
+  filled d n most = rw (drop-of-length-le d most) (append-nil (tabulate n f))
+
+  pub tabulate-is : (l : List ℕ) (n : ℕ) → length l ≡ n → ((i : ℕ) → i < n → f i ≡ getD l i 0) → tabulate n f ≡ l
+  tabulate-is l n size each =
+      ext-getD 0 (tabulate n f) l (length-tabulate n ∙ sym size) (λ i low. at i (omega (arith, length-tabulate n)))
+    where
+      at : (i : ℕ) → i < n → getD (tabulate n f) i 0 ≡ getD l i 0
+      at i low = tabulate-at n i low ∙ each i low
+
+-- a store at k, where g has the value that is stored and elsewhere f's values
+pub tabulate-set :
+    (f g : ℕ → ℕ) (n k : ℕ)
+    → k < n
+    → ((j : ℕ) → j < n → (j ≡ k → ⊥) → g j ≡ f j)
+    → set (tabulate n f) k (g k) ≡ tabulate n g
+tabulate-set f g n k low other =
+    sym (tabulate-is g (set (tabulate n f) k (g k)) n (length-set (tabulate n f) k (g k) ∙ length-tabulate f n) (λ j lt. at j lt (ℕ-discrete j k)))
+  where
+    at : (j : ℕ) → j < n → Dec (j ≡ k) → g j ≡ getD (set (tabulate n f) k (g k)) j 0
+    at j lt (yes e) =
+        sym (rw e (getD-set-same (tabulate n f) k (g k) 0 (omega (arith, length-tabulate f n))))
+    at j lt (no ne) = other j lt ne ∙ sym (getD-set-other (tabulate n f) k j (g k) 0 ne ∙ tabulate-at f n j lt)

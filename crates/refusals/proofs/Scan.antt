@@ -3,8 +3,8 @@
 use mathlib.Core.Path.{_≡_, refl, sym, subst}
 use mathlib.Core.Logic.{⊎-elim}
 use mathlib.Core.Bool.{Bool, true, false, cond, _||_}
-use Prim.Native.Nat.{ℕ, zero, suc, _+_, _<_, _≤_}
-use native.Mathlib.Nat.{le-of-suc-le-suc, eq-or-lt-of-le, not-suc-le-zero, max-eq-left, max-eq-right}
+use Prim.Native.Nat.{ℕ, zero, suc, _+_, _<_, _≤_, max}
+use native.Mathlib.Nat.{le-of-suc-le-suc, eq-or-lt-of-le, not-suc-le-zero, le-trans, le-max-left, le-max-right, max-le, max-eq-left, max-eq-right}
 use native.Mathlib.Numerals.{add-one}
 use native.Mathlib.Omega.{arith}
 use lib.Dec.{eqb}
@@ -90,6 +90,24 @@ module _ (f : ℕ → ℕ) where
   pub greatest-same : (i : ℕ) → f i ≤ greatestBelow f i → greatestBelow f (i + 1) ≡ greatestBelow f i
   unfolding greatestBelow
   greatest-same i h = rw (add-one i, max-eq-right h)
+
+  pub greatest-next : (i : ℕ) → greatestBelow f (i + 1) ≡ max (f i) (greatestBelow f i)
+  unfolding greatestBelow
+  greatest-next i = rw (add-one i)
+
+  pub greatest-at : (i n : ℕ) → i < n → f i ≤ greatestBelow f n
+  unfolding greatestBelow
+  greatest-at i zero low = absurd (not-suc-le-zero low)
+  greatest-at i (suc n) low =
+      ⊎-elim
+      (λ e. subst (λ (m : ℕ). f m ≤ max (f n) (greatestBelow f n)) (sym e) (le-max-left (f n) (greatestBelow f n)))
+      (λ lt. le-trans (greatest-at i n lt) (le-max-right (f n) (greatestBelow f n)))
+      (eq-or-lt-of-le (le-of-suc-le-suc low))
+
+  pub greatest-within : (n most : ℕ) → ((i : ℕ) → i < n → f i ≤ most) → greatestBelow f n ≤ most
+  unfolding greatestBelow
+  greatest-within zero most each = omega arith
+  greatest-within (suc n) most each = max-le (each n (omega arith)) (greatest-within n most (λ i low. each i (omega arith)))
 
 -- what a loop that counted up to n has shown: a search that found nothing before n
 pub first-all : (f : ℕ → Bool) (first n : ℕ) → first ≡ firstBelow f n → n ≤ first → firstBelow f n ≡ n

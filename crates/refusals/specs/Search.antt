@@ -1,6 +1,6 @@
 -- Searches over the numbers below a bound: the lines of a file, the parts, the resources.
 -- Assumes nothing.
-use mathlib.Core.Bool.{Bool, false, cond, _||_}
+use mathlib.Core.Bool.{Bool, true, false, cond, _&&_, _||_}
 use mathlib.Core.List.{List, [], _∷_, _++_}
 use Prim.Native.Nat.{ℕ, zero, suc, max}
 use lib.Dec.{eqb}
@@ -14,6 +14,11 @@ firstBelow f (suc n) = cond (eqb (firstBelow f n) n) (cond (f n) n (suc n)) (fir
 unfoldable pub anyBelow : (ℕ → Bool) → ℕ → Bool
 anyBelow f zero = false
 anyBelow f (suc n) = f n || anyBelow f n
+
+-- whether f holds at each number below n
+unfoldable pub allBelow : (ℕ → Bool) → ℕ → Bool
+allBelow f zero = true
+allBelow f (suc n) = f n && allBelow f n
 
 -- at how many numbers below n f holds
 unfoldable pub countBelow : (ℕ → Bool) → ℕ → ℕ

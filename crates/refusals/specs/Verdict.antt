@@ -6,6 +6,7 @@ use Rattle.refusals.specs.declared.Refusal.{Refusal}
 use Rattle.refusals.specs.declared.Refusal.the-variants.{LineCount}
 use Rattle.refusals.specs.declared.Verdict.{Verdict}
 use Rattle.refusals.specs.declared.Verdict.the-variants.{Accepted, Refused}
+use Rattle.refusals.specs.Refusal.{numberOf}
 use Rattle.refusals.specs.Search.{firstBelow}
 
 -- "Each of the two readers tries a rule over the whole file before the next rule."
@@ -29,3 +30,8 @@ noLine refusal breaks = cond breaks (Refused refusal 0) Accepted
 -- "3. There are no value lines, or over 64."
 unfoldable pub rule3 : ℕ → Verdict
 rule3 count = noLine LineCount (eqb count 0 || ltb 64 count)
+
+-- "a definition provides this paper's number .. for each case": the refusal of a verdict, 0 if it accepts
+unfoldable pub refusalIn : Verdict → ℕ
+refusalIn Accepted = 0
+refusalIn (Refused refusal line) = numberOf refusal

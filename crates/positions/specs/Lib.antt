@@ -1,0 +1,4 @@
+pub mod Radix
+pub mod Sizes
+pub mod Position
+pub mod Rules

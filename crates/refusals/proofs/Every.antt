@@ -1,0 +1,107 @@
+-- Tests of every number below a bound, and how many pass. Assumes nothing.
+use mathlib.Core.Path.{_≡_, refl, sym, subst, _∙_}
+use mathlib.Core.Logic.{⊎-elim}
+use mathlib.Core.Bool.{Bool, true, false, cond, _&&_, _||_}
+use Prim.Native.Nat.{ℕ, zero, suc, _+_, _<_, _≤_}
+use native.Mathlib.Nat.{le-of-suc-le-suc, eq-or-lt-of-le, not-suc-le-zero}
+use native.Mathlib.Numerals.{add-one}
+use native.Mathlib.Omega.{arith}
+use Rattle.refusals.specs.Search.{firstBelow, anyBelow, allBelow, countBelow}
+use Rattle.refusals.proofs.Scan.{any-hit}
+
+module _ (f : ℕ → Bool) where
+  pub all-by : (n : ℕ) → ((i : ℕ) → i < n → f i ≡ true) → allBelow f n ≡ true
+  unfolding allBelow
+  all-by zero each = refl
+  all-by (suc n) each = rw (each n (omega arith), all-by n (λ i low. each i (omega arith)))
+
+  pub all-at : (n i : ℕ) → allBelow f n ≡ true → i < n → f i ≡ true
+  unfolding allBelow
+  all-at zero i all low = absurd (not-suc-le-zero low)
+  all-at (suc n) i all low =
+      ⊎-elim
+      (λ e. subst (λ (m : ℕ). f m ≡ true) (sym e) (left (f n) (allBelow f n) all))
+      (λ lt. all-at n i (right (f n) (allBelow f n) all) lt)
+      (eq-or-lt-of-le (le-of-suc-le-suc low))
+    where
+      left : (a b : Bool) → (a && b) ≡ true → a ≡ true
+      left true b e = refl
+      left false b e = e
+
+      right : (a b : Bool) → (a && b) ≡ true → b ≡ true
+      right true b e = e
+      right false b e = cc
+
+  -- a loop that counts up: every number so far passes, and this one too
+  pub all-more : (i : ℕ) → allBelow f i ≡ true → f i ≡ true → allBelow f (i + 1) ≡ true
+  unfolding allBelow
+  all-more i before here = rw (add-one i, here, before)
+
+  pub all-end : (i n : ℕ) → i ≤ n → n ≤ i → allBelow f i ≡ true → true ≡ allBelow f n
+  all-end i n low high all = let end : i ≡ n = omega arith in sym (subst (λ (m : ℕ). allBelow f m ≡ true) end all)
+
+  -- this one does not
+  pub all-fails : (n i : ℕ) → i < n → f i ≡ false → allBelow f n ≡ false
+  all-fails n i low here = decide (allBelow f n) refl
+    where
+      decide : (b : Bool) → allBelow f n ≡ b → allBelow f n ≡ false
+      decide false e = e
+      decide true e = let z : true ≡ false = sym (all-at n i e low) ∙ here in cc
+
+  pub any-none : (n : ℕ) → ((i : ℕ) → i < n → f i ≡ false) → anyBelow f n ≡ false
+  unfolding anyBelow
+  any-none zero none = refl
+  any-none (suc n) none = rw (none n (omega arith), any-none n (λ i low. none i (omega arith)))
+
+  -- where no number passes, this one does not
+  pub any-not : (n i : ℕ) → anyBelow f n ≡ false → i < n → f i ≡ false
+  any-not n i nowhere low = decide (f i) refl
+    where
+      decide : (b : Bool) → f i ≡ b → f i ≡ false
+      decide false e = e
+      decide true e = let z : true ≡ false = sym (any-hit f i n low e) ∙ nowhere in cc
+
+  pub count-none : (n : ℕ) → ((i : ℕ) → i < n → f i ≡ false) → countBelow f n ≡ 0
+  unfolding countBelow
+  count-none zero none = refl
+  count-none (suc n) none = rw (none n (omega arith)) (count-none n (λ i low. none i (omega arith)))
+
+  -- one number passes, and no other
+  pub count-one : (n k : ℕ) → k < n → f k ≡ true → ((i : ℕ) → i < n → (i ≡ k → ⊥) → f i ≡ false) → countBelow f n ≡ 1
+  unfolding countBelow
+  count-one zero k low here others = absurd (not-suc-le-zero low)
+  count-one (suc n) k low here others =
+      ⊎-elim
+      (λ (e : k ≡ n).
+      rw (subst (λ (m : ℕ). f m ≡ true) e here, count-none n (λ (i : ℕ) (lt : i < n). others i (omega arith) (λ (z : i ≡ k). omega arith))))
+      (λ (lt : k < n).
+      rw (others n (omega arith) (λ (z : n ≡ k). omega arith)) (count-one n k lt here (λ (i : ℕ) (less : i < n) (ne : i ≡ k → ⊥). others i (omega arith) ne)))
+      (eq-or-lt-of-le (le-of-suc-le-suc low))
+
+  -- a number that passes is counted
+  pub count-some : (n k : ℕ) → k < n → f k ≡ true → 1 ≤ countBelow f n
+  unfolding countBelow
+  count-some zero k low here = absurd (not-suc-le-zero low)
+  count-some (suc n) k low here =
+      ⊎-elim
+      (λ (e : k ≡ n). rw (subst (λ (m : ℕ). f m ≡ true) e here) (omega arith))
+      (λ (lt : k < n). more (f n) (count-some n k lt here))
+      (eq-or-lt-of-le (le-of-suc-le-suc low))
+    where
+      more : (b : Bool) → 1 ≤ countBelow f n → 1 ≤ cond b (suc (countBelow f n)) (countBelow f n)
+      more true h = omega arith
+      more false h = h
+
+  -- two numbers that pass are counted twice
+  pub count-two : (n i k : ℕ) → i < k → k < n → f i ≡ true → f k ≡ true → 2 ≤ countBelow f n
+  unfolding countBelow
+  count-two zero i k less low here there = absurd (not-suc-le-zero low)
+  count-two (suc n) i k less low here there =
+      ⊎-elim
+      (λ (e : k ≡ n). rw (subst (λ (m : ℕ). f m ≡ true) e there) (omega (arith, count-some n i (omega arith) here)))
+      (λ (lt : k < n). more (f n) (count-two n i k less lt here there))
+      (eq-or-lt-of-le (le-of-suc-le-suc low))
+    where
+      more : (b : Bool) → 2 ≤ countBelow f n → 2 ≤ cond b (suc (countBelow f n)) (countBelow f n)
+      more true h = omega arith
+      more false h = h
