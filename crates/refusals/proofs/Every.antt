@@ -1,12 +1,14 @@
 -- Tests of every number below a bound, and how many pass. Assumes nothing.
 use mathlib.Core.Path.{_≡_, refl, sym, subst, _∙_}
 use mathlib.Core.Logic.{⊎-elim}
-use mathlib.Core.Bool.{Bool, true, false, cond, _&&_, _||_}
+use mathlib.Core.Bool.{Bool, true, false, cond, not, _&&_}
 use Prim.Native.Nat.{ℕ, zero, suc, _+_, _<_, _≤_}
 use native.Mathlib.Nat.{le-of-suc-le-suc, eq-or-lt-of-le, not-suc-le-zero}
 use native.Mathlib.Numerals.{add-one}
 use native.Mathlib.Omega.{arith}
-use Rattle.refusals.specs.Search.{firstBelow, anyBelow, allBelow, countBelow}
+use lib.Dec.{eqb}
+use borrow.Author.Tests.{eq-eqb, ne-eqb}
+use Rattle.refusals.specs.Search.{anyBelow, allBelow, countBelow}
 use Rattle.refusals.proofs.Scan.{any-hit}
 
 module _ (f : ℕ → Bool) where
@@ -105,3 +107,53 @@ module _ (f : ℕ → Bool) where
       more : (b : Bool) → 2 ≤ countBelow f n → 2 ≤ cond b (suc (countBelow f n)) (countBelow f n)
       more true h = omega arith
       more false h = h
+
+-- two tests that agree below n pass as often
+count-same : (f g : ℕ → Bool) (n : ℕ) → ((i : ℕ) → i < n → f i ≡ g i) → countBelow g n ≡ countBelow f n
+unfolding countBelow
+count-same f g zero same = refl
+count-same f g (suc n) same = rw (same n (omega arith), count-same f g n (λ i low. same i (omega arith)))
+
+-- and one that passes at one number more once more
+pub count-more :
+    (f g : ℕ → Bool) (n k : ℕ)
+    → k < n
+    → f k ≡ false
+    → g k ≡ true
+    → ((i : ℕ) → i < n → (i ≡ k → ⊥) → f i ≡ g i)
+    → countBelow g n ≡ suc (countBelow f n)
+unfolding countBelow
+count-more f g zero k low before now same = absurd (not-suc-le-zero low)
+count-more f g (suc n) k low before now same =
+    ⊎-elim
+    (λ (e : k ≡ n).
+    rw (subst (λ (m : ℕ). f m ≡ false) e before, subst (λ (m : ℕ). g m ≡ true) e now, count-same f g n (λ (i : ℕ) (lt : i < n). same i (omega arith) (λ (z : i ≡ k). omega arith))))
+    (λ (lt : k < n).
+    more (f n) (g n) (same n (omega arith) (λ (z : n ≡ k). omega arith)) (count-more f g n k lt before now (λ (i : ℕ) (less : i < n) (ne : i ≡ k → ⊥). same i (omega arith) ne)))
+    (eq-or-lt-of-le (le-of-suc-le-suc low))
+  where
+    more :
+        (a b : Bool)
+        → a ≡ b
+        → countBelow g n ≡ suc (countBelow f n)
+        → cond b (suc (countBelow g n)) (countBelow g n) ≡ suc (cond a (suc (countBelow f n)) (countBelow f n))
+    more a true e h = rw (e, h)
+    more a false e h = rw (e, h)
+
+-- as many numbers that pass as there are different values of g
+pub count-many :
+    (f : ℕ → Bool) (g : ℕ → ℕ) (n m : ℕ)
+    → ((j : ℕ) → j < m → g j < n)
+    → ((j : ℕ) → j < m → f (g j) ≡ true)
+    → ((i j : ℕ) → i < j → j < m → g i ≡ g j → ⊥)
+    → m ≤ countBelow f n
+count-many f g n zero low pass differ = omega arith
+count-many f g n (suc m) low pass differ =
+    let others : ℕ → Bool = λ i. f i && not (eqb i (g m)) in
+    let rest : m ≤ countBelow others n = count-many others g n m (λ j less. low j (omega arith)) (λ j less. rw (pass j (omega arith), ne-eqb (g j) (g m) (differ j m less (omega arith)))) (λ i j less most. differ i j less (omega arith)) in
+    let one : countBelow f n ≡ suc (countBelow others n) = count-more others f n (g m) (low m (omega arith)) (rw (pass m (omega arith), eq-eqb (g m) (g m) refl)) (pass m (omega arith)) (λ i less ne. rw (ne-eqb i (g m) ne) (both (f i))) in
+    omega arith
+  where
+    both : (b : Bool) → (b && true) ≡ b
+    both true = refl
+    both false = refl

@@ -82,6 +82,16 @@ module _ (f : ℕ → Bool) where
       decide false e = e
       decide true e = absurd (omega (arith, first-at-most i n low e))
 
+  -- the search passes over numbers that are none
+  first-past : (n : ℕ) → ((i : ℕ) → i < n → f i ≡ false) → firstBelow f n ≡ n
+  unfolding firstBelow
+  first-past zero none = refl
+  first-past (suc n) none = rw (eq-eqb _ _ (first-past n (λ i low. none i (omega arith))), none n (omega arith))
+
+  -- and finds the first that is one
+  pub first-one : (i n : ℕ) → i < n → f i ≡ true → ((j : ℕ) → j < i → f j ≡ false) → firstBelow f n ≡ i
+  first-one i n low here none = first-hit i n low (first-past i none) here
+
 module _ (f : ℕ → ℕ) where
   pub greatest-more : (i : ℕ) → greatestBelow f i ≤ f i → greatestBelow f (i + 1) ≡ f i
   unfolding greatestBelow

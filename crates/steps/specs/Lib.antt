@@ -1,0 +1,5 @@
+pub mod Lines
+pub mod Joint
+pub mod Carry
+pub mod Entry
+pub mod Single
