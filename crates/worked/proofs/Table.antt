@@ -1,32 +1,17 @@
--- The worked examples of document 01 marked ‡, one row each, and the two files that they start from. Each is computed.
--- Assumes nothing.
-use mathlib.Core.Path.{_≡_, refl}
-use Rattle.refusals.specs.declared.Verdict.the-variants.{Accepted, Refused}
-use Rattle.refusals.specs.declared.Refusal.the-variants.{NoPartner}
-use Rattle.refusals.specs.Search.{firstBelow, anyBelow, countBelow, greatestBelow, tabulate}
-use Rattle.refusals.specs.Verdict.{before, lineVerdict, firstLine, noLine, rule3}
-use Rattle.tables.specs.Lines.{upTo, past, lengthened, parted, ended, last, lines, unended, valueText, valueLines}
-use Rattle.tables.specs.Numbers.{isDigit, areDigits, isNumber, decimal, fields, areNumbers, isRow, numbers}
-use Rattle.tables.specs.Table.{starts, rule1, firstBroken, isBroken, rule2, numberAt, column}
-use Rattle.cell.specs.Rules as cell
-use Rattle.cell.specs.Reader.{cellNames, cellOf, judgeCell}
-use Rattle.recipe.specs.Rules as recipe
-use Rattle.recipe.specs.Reader.{recipeNames, recipeOf, judgeRecipe}
-use Rattle.worked.specs.Bench.{row, cellFile, recipeFile}
+-- The worked examples of document 01 marked ‡, as one table. Each row is computed. Assumes nothing.
+use Rattle.positions.specs.Position.{start}
+use Rattle.run.specs.Promises.{Promises}
+use Rattle.worked.specs.Moves.{benchCell, benchRecipe, benchTable}
+use Rattle.worked.proofs.Files.{Files, files}
+use Rattle.worked.proofs.Followed.{benchCalls, followed}
+use Rattle.worked.proofs.Limit.{Limit, limit}
+use Rattle.worked.proofs.Moves.{Moves, moves}
 
 pub record Table : Type 0 where
-  -- the bench example itself
-  pub cell-accepted : judgeCell (cellFile 5) ≡ Accepted
-  pub recipe-accepted : judgeRecipe recipeFile ≡ Accepted
-  -- ‡ "line 2 with port 6 gives 6 at line 3"
-  pub port-six : judgeCell (cellFile 6) ≡ Refused NoPartner 3
+  pub of-files : Files
+  pub of-moves : Moves
+  pub of-limit : Limit
+  pub of-calls : Promises benchCell benchRecipe benchTable 0 start benchCalls
 
 pub table : Table
-unfolding firstBelow anyBelow countBelow greatestBelow tabulate before lineVerdict firstLine noLine rule3 upTo past lengthened parted ended last lines
-    unended valueText valueLines isDigit areDigits isNumber decimal fields areNumbers isRow numbers starts rule1 firstBroken isBroken rule2 numberAt column
-    cell.inRange cell.leavesRange cell.rule4 cell.isOf cell.greatestResource cell.hasNoLine cell.gap cell.rule5 cell.otherAct cell.partner cell.inOrOut cell.unpaired
-    cell.rule6 cell.checkCell cellNames cellOf judgeCell recipe.inRange recipe.leavesRange recipe.rule4 recipe.breaksOrder recipe.rule7 recipe.samePoint recipe.clashes
-    recipe.breaksRepeat recipe.rule8 recipe.hasUnused recipe.breaksUnused recipe.rule9 recipe.lacksParts recipe.breaksParts recipe.rule10 recipe.holdsPart recipe.common
-    recipe.sharesPart recipe.breaksCommon recipe.rule11 recipe.opensPoint recipe.pointCount recipe.leadsOut recipe.breaksTarget recipe.rule12 recipe.checkPoints
-    recipe.checkRecipe recipeNames recipeOf judgeRecipe row cellFile recipeFile
-table = record { cell-accepted = refl; recipe-accepted = refl; port-six = refl }
+table = record { of-files = files; of-moves = moves; of-limit = limit; of-calls = followed }

@@ -1,0 +1,50 @@
+use mathlib.Core.Path.{refl, sym, ap, _∙_}
+use mathlib.Core.Bool.{not}
+use borrow.Author.Tests.{lt-ltb, le-ltb}
+use Rattle.refusals.proofs.Verdicts.{refuses, accepts}
+use Rattle.refusals.specs.declared.Refusal.the-variants.{TooShort, RunRange}
+use Rattle.positions.specs.Rules.{rule14, rule16}
+use Rattle.run.proofs.Judged.{noLine-broken, noLine-kept}
+use borrow.Author.Needs.{needs}
+use Rattle.run.proofs.check_table.Statement.{statement}
+use Rattle.run.proofs.check_table.Tie as tie
+
+check-size-requires : tie.Need-check-size-requires
+check-size-requires c κs = search needs
+
+enum-told : tie.Need-enum-told
+enum-told c = search needs
+
+enum-told-2 : tie.Need-enum-told-2
+enum-told-2 c = search needs
+
+returns : tie.Need-returns
+returns c = refuses _ (c .before .before .check-size .ensures) (c .enum-told2 .given .1)
+
+returns-2 : tie.Need-returns-2
+unfolding rule14
+returns-2 c = accepts (c .before .before .before .before .check-size .ensures) (c .before .before .enum-told .given .1) (refuses _ (sym (noLine-broken TooShort _ (lt-ltb _ _ (c .if1 .taken)))) refl)
+
+is-position-requires : tie.Need-is-position-requires
+is-position-requires c κs = search needs
+
+returns-3 : tie.Need-returns-3
+unfolding rule14 rule16
+returns-3 c = accepts (c .before .before .before .before .before .before .check-size .ensures) (c .before .before .before .before .enum-told .given .1) (accepts (sym (noLine-kept TooShort _ (le-ltb _ _ (c .before .before .if1 .left)))) refl (sym (noLine-broken RunRange _ (ap not (sym (c .before .is-position .ensures)) ∙ c .if2 .taken))))
+
+returns-4 : tie.Need-returns-4
+unfolding rule14 rule16
+returns-4 c = accepts (c .before .before .before .before .before .before .check-size .ensures) (c .before .before .before .before .enum-told .given .1) (accepts (sym (noLine-kept TooShort _ (le-ltb _ _ (c .before .before .if1 .left)))) refl (sym (noLine-kept RunRange _ (ap not (sym (c .before .is-position .ensures)) ∙ c .if2 .left))))
+
+pub check-table-spec : {M : Type 1} → statement M
+check-table-spec =
+    tie.close
+    (tie.spec
+    check-size-requires
+    enum-told
+    enum-told-2
+    returns
+    returns-2
+    is-position-requires
+    returns-3
+    returns-4)

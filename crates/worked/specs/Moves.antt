@@ -1,0 +1,89 @@
+-- The moves that `walk` prints in the bench example, the table that holds them, and the example at the limit. Assumes nothing.
+use mathlib.Core.Bool.{cond}
+use mathlib.Core.List.{List, [], _∷_, _++_}
+use Prim.Native.Nat.{ℕ, _+_}
+use lib.ListN.{replicate}
+use lib.Dec.{eqb}
+use Rattle.refusals.specs.Search.{tabulate}
+use Rattle.cell.specs.declared.Cell.{Cell}
+use Rattle.recipe.specs.declared.Recipe.{Recipe}
+use Rattle.positions.specs.declared.Sizes.{Sizes}
+use Rattle.positions.specs.Sizes.{sizesOf}
+use Rattle.positions.specs.Position.{positionOf, pointAt, configurationAt}
+use Rattle.steps.specs.Single.{opens, makes, leadsTo}
+
+-- the bench example's records, an array for each field, filled with 0 to 64 lines
+unfoldable pub filled : List ℕ → List ℕ
+filled lines = lines ++ replicate 59 0
+
+unfoldable pub benchCell : Cell
+benchCell =
+    record {
+      count = 5;
+      resource = filled (0 ∷ 0 ∷ 1 ∷ 1 ∷ 1 ∷ []);
+      from = filled (0 ∷ 1 ∷ 0 ∷ 1 ∷ 2 ∷ []);
+      act = filled (1 ∷ 3 ∷ 2 ∷ 1 ∷ 1 ∷ []);
+      arg = filled (1 ∷ 5 ∷ 5 ∷ 2 ∷ 3 ∷ []);
+      to = filled (1 ∷ 0 ∷ 1 ∷ 2 ∷ 0 ∷ []);
+    }
+
+unfoldable pub benchRecipe : Recipe
+benchRecipe =
+    record {
+      count = 5;
+      point = filled (0 ∷ 1 ∷ 2 ∷ 3 ∷ 4 ∷ []);
+      kind = filled (1 ∷ 2 ∷ 1 ∷ 1 ∷ 0 ∷ []);
+      op = filled (1 ∷ 2 ∷ 3 ∷ 3 ∷ 0 ∷ []);
+      takes = filled (0 ∷ 1 ∷ 1 ∷ 1 ∷ 0 ∷ []);
+      gives = filled (1 ∷ 0 ∷ 0 ∷ 0 ∷ 0 ∷ []);
+      then = filled (1 ∷ 2 ∷ 4 ∷ 0 ∷ 0 ∷ []);
+      otherwise = filled (0 ∷ 3 ∷ 0 ∷ 0 ∷ 0 ∷ []);
+    }
+
+unfoldable pub benchSizes : Sizes
+benchSizes = sizesOf benchCell benchRecipe
+
+-- the next position, from a position by an entry at an outcome; the position itself if the entry isn't a move open there
+unfoldable pub next : ℕ → ℕ → ℕ → ℕ
+next position entry outcome =
+    let p = pointAt benchSizes position in
+    let a = configurationAt benchSizes position in
+    cond (opens benchCell benchRecipe p a entry)
+    (positionOf benchSizes (leadsTo benchRecipe p entry outcome) (makes benchCell benchRecipe p a entry))
+    position
+
+-- the bench example's moves: what `walk` prints, the move after the test's outcome 0, and the end
+unfoldable pub entryOf : ℕ → ℕ
+entryOf m =
+    cond (eqb m 0) 50331648 (cond (eqb m 22) 33554561 (cond (eqb m 26) 50331651
+    (cond (eqb m 50) 50331652 (cond (eqb m 68) 50331652 (cond (eqb m 72) 67108864 0)))))
+
+-- a table of M entries that holds them
+unfoldable pub benchTable : List ℕ
+benchTable = tabulate 90 entryOf
+
+-- "R 3, four states each": three stations, of which the first goes to the given state and the others to 3
+unfoldable pub limitCell : ℕ → Cell
+limitCell most =
+    record {
+      count = 3;
+      resource = 0 ∷ 1 ∷ 2 ∷ [];
+      from = replicate 3 0;
+      act = replicate 3 0;
+      arg = replicate 3 0;
+      to = most ∷ 3 ∷ 3 ∷ [];
+    }
+
+-- "P 5, N 16": fifteen dos in a row that give part 4, and an end
+unfoldable pub limitRecipe : Recipe
+limitRecipe =
+    record {
+      count = 16;
+      point = tabulate 16 (λ n. n);
+      kind = replicate 15 1 ++ (0 ∷ []);
+      op = replicate 16 0;
+      takes = replicate 16 0;
+      gives = replicate 15 16 ++ (0 ∷ []);
+      then = tabulate 15 (λ n. n + 1) ++ (0 ∷ []);
+      otherwise = replicate 16 0;
+    }
