@@ -1,15 +1,39 @@
 /*
- * The cell planner's C interface: the readers of the cell file and the recipe file.
+ * The cell planner's C interface: the readers of the cell file and the recipe file, and the run over a
+ * stored table.
  *
- * A slice is passed as a pointer and a length in bytes. No pointer may be NULL, also where the length
- * is 0. A buffer lent for a record must not overlap the file. No call keeps a pointer, and calls from
- * several threads need no lock as long as they share no buffer for a record.
+ * A slice of bytes is passed as a pointer and a length in bytes, a table as a pointer and its number of
+ * entries (elements, not bytes). No pointer may be NULL, also where the length is 0. What a call may
+ * write (a reader's record, the run of fresh and of report) must not overlap anything else that it is
+ * handed. No call keeps a pointer, and calls from several threads need no lock as long as none writes
+ * what another one uses.
  *
  * A cell record has CELLPLAN_CELL_BYTES bytes: byte 0 is the line count, then follow 64 times
  *     resource, from, act, arg, to.
  * A recipe record has CELLPLAN_RECIPE_BYTES bytes: byte 0 is the line count, then follow 64 times
  *     point, kind, op, takes, gives, then, else.
- * Lines stand in file order, one byte a field. Past the line count all bytes are 0.
+ * Lines stand in file order, one byte a field. A reader leaves 0 in all bytes past the line count; in a
+ * record handed in they count for nothing.
+ *
+ * A run has CELLPLAN_RUN_BYTES bytes: the point, the states of the resources 0 to 5, the places of the
+ * parts 0 to 7. A place is 0 outside the cell and k + 1 at resource k. Resources and parts that aren't
+ * there have 0.
+ *
+ * Of a record or run that is longer, the bytes past its end count for nothing and stay as they were. A
+ * record that is shorter counts as one of no lines (3), a run that is shorter as one out of range (16).
+ *
+ * A table has an entry for each position. With R resources, J the product of their numbers of states,
+ * P parts and W = (R+1)^P, the position of a run is
+ *     (point * J + j) * W + w,
+ * j being the sum of each resource's state times the numbers of states of all lower resources
+ * multiplied, and w the sum of place n times (R+1)^n. M = N * J * W is the number of positions, N being
+ * the number of points. An entry is 0 or
+ *     kind * 16777216 + a + 64 * b + 4096 * c + 262144 * d,
+ * the letters being numbers of cell lines from 0, and 0 where they are unused:
+ *     kind 1  the internal line a;
+ *     kind 2  the out line a together with the in line b;
+ *     kind 3  carry: a to d are the cell lines for the point's recipe lines in order;
+ *     kind 4  the run is at an end; no letter is used.
  *
  * A reader's result is 0 if the file is accepted, else
  *     refusal + 256 * line.
@@ -32,8 +56,18 @@
  *     11  Recipe: two lines of a point take, or give, a common part.
  *     12  Recipe: a do's `then` or a test's `then` or `else` is N or more, N being the number of
  *         points.
- *     14  The buffer lent for the record is too short. This is tried before all else, names no line,
- *         and leaves the buffer as it was.
+ *     13  M exceeds CELLPLAN_MOST_POSITIONS.
+ *     14  The table has fewer than M entries. Of a reader and of fresh: the buffer lent for the record
+ *         or the run is too short. That is tried before all else, names no line, and leaves the buffer
+ *         as it was.
+ *     16  Run: a point of N or more, a state or place outside its count, or a number other than 0 for a
+ *         resource or part that isn't there.
+ *     17  Report: the outcome is above 1.
+ *     18  Run: the entry isn't a move open here, 0 included, or not in the stated form.
+ *     19  Report: the run is at an end.
+ * A call that is handed records tries the cell's rules from 3 on, then the recipe's from 3 on, then
+ * those from 13 on that are its own. A call that refuses changes nothing, but for a reader, which writes
+ * its record.
  */
 #ifndef CELLPLAN_H
 #define CELLPLAN_H
@@ -47,10 +81,26 @@ extern "C" {
 
 #define CELLPLAN_CELL_BYTES 321
 #define CELLPLAN_RECIPE_BYTES 449
+#define CELLPLAN_RUN_BYTES 15
+
+/* The most positions that rule 13 lets pass. A table of so many entries is never too short. */
+#define CELLPLAN_MOST_POSITIONS 1048576
 
 /* The refusal and the line in a reader's result. */
 #define CELLPLAN_REFUSAL(result) ((unsigned)((uint64_t)(result) % 256))
 #define CELLPLAN_LINE(result) ((uint64_t)(result) / 256)
+
+/* The refusal and the entry in a next-move call's result. */
+#define CELLPLAN_MOVE_REFUSAL(result) ((unsigned)((uint64_t)(result) >> 32))
+#define CELLPLAN_MOVE_ENTRY(result) ((uint32_t)((uint64_t)(result) & 0xffffffff))
+
+/* The refusal and the place in a place call's result. */
+#define CELLPLAN_PLACE_REFUSAL(result) ((unsigned)((uint32_t)(result) / 256))
+#define CELLPLAN_PLACE(result) ((unsigned)((uint32_t)(result) % 256))
+
+/* The kind of an entry, and its letter n: 0 for a to 3 for d. */
+#define CELLPLAN_KIND(entry) ((unsigned)((uint32_t)(entry) >> 24))
+#define CELLPLAN_LETTER(entry, n) ((unsigned)((uint32_t)(entry) >> (6 * (n)) & 63))
 
 /*
  * Reads a cell file into a record. The record's bytes are written, refused or not: a refused file gives
@@ -70,6 +120,51 @@ uint64_t cellplan_read_recipe(const uint8_t *file, size_t file_length,
  */
 size_t cellplan_line_start(const uint8_t *file, size_t file_length, size_t n);
 size_t cellplan_line_length(const uint8_t *file, size_t file_length, size_t n);
+
+/*
+ * Checks a cell record and a recipe record: the result is the first refusal of the rules 3 to 13, or 0.
+ * Which line breaks a rule is not said; a reader says that of the file.
+ */
+uint32_t cellplan_check(const uint8_t *cell, size_t cell_length,
+                        const uint8_t *recipe, size_t recipe_length);
+
+/*
+ * Writes the fresh run: point 0, every resource in state 0, every part outside. The result is 0, or 14
+ * if the buffer is too short. Bytes of a longer buffer past the run stay as they were.
+ */
+uint32_t cellplan_fresh(uint8_t *run, size_t run_length);
+
+/*
+ * The entry at the run's position. The result is
+ *     refusal * 2^32 + entry,
+ * with entry 0 if refused and refusal 0 if not. The refusals from 13 on are tried in the order 13, 14,
+ * 16, 18. At an end the entry is 67108864, kind 4.
+ */
+uint64_t cellplan_next_move(const uint8_t *cell, size_t cell_length,
+                            const uint8_t *recipe, size_t recipe_length,
+                            const uint32_t *table, size_t table_entries,
+                            const uint8_t *run, size_t run_length);
+
+/*
+ * Makes the move at the run's position and puts the next run in the run's place. A carried do goes to
+ * its point's `then`; a test goes to `then` on outcome 1 and to `else` on outcome 0; other moves ignore
+ * the outcome. The result is 0, or the refusal, and then the run stays. The refusals from 13 on are
+ * tried in the order 13, 14, 16, 17, 18, 19.
+ */
+uint32_t cellplan_report(const uint8_t *cell, size_t cell_length,
+                         const uint8_t *recipe, size_t recipe_length,
+                         const uint32_t *table, size_t table_entries,
+                         uint8_t *run, size_t run_length, uint8_t outcome);
+
+/*
+ * The place of a part. The result is
+ *     refusal * 256 + place,
+ * with place 255 if refused, and refusal 0 with place 255 for a part number of P or more, P being the
+ * greatest part number in the recipe plus 1. The refusals from 13 on are tried in the order 13, 16.
+ */
+uint32_t cellplan_place(const uint8_t *cell, size_t cell_length,
+                        const uint8_t *recipe, size_t recipe_length,
+                        const uint8_t *run, size_t run_length, uint8_t part);
 
 #ifdef __cplusplus
 }

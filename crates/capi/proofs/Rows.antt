@@ -1,7 +1,8 @@
 -- Rows of bytes put one after another into a buffer. Assumes nothing.
 use mathlib.Core.Path.{_≡_, refl, sym, ap, _∙_}
-use mathlib.Core.List.{List, _∷_, _++_}
+use mathlib.Core.List.{List, [], _∷_, _++_}
 use Prim.Native.Nat.{ℕ, zero, suc, _+_, _*_, _<_, _≤_}
+use native.Mathlib.Nat.{mul-le-mul-right}
 use native.Mathlib.Numerals.{add-one}
 use native.Mathlib.Omega.{arith}
 use lib.ListN.{length, set, drop, length-append, length-drop}
@@ -15,6 +16,30 @@ put-after P old vs room =
     sets-eq vs (P ++ drop (length P) old) (length P) (omega (arith, length-append P (drop (length P) old), length-drop (length P) old))
     ∙ ap (λ (l : List ℕ). (l ++ vs) ++ drop (length P + length vs) (P ++ drop (length P) old)) (take-at P (drop (length P) old) (length P) refl)
     ∙ ap (λ (l : List ℕ). (P ++ vs) ++ l) (drop-append-add P (drop (length P) old) (length vs) ∙ drop-drop (length vs) (length P) old)
+
+-- three times five bytes put at the start
+pub put-three :
+    (old first second third x y z : List ℕ)
+    → first ≡ sets old 0 x
+    → second ≡ sets first 5 y
+    → third ≡ sets second 10 z
+    → length x ≡ 5
+    → length y ≡ 5
+    → length z ≡ 5
+    → 15 ≤ length old
+    → third ≡ ((x ++ y) ++ z) ++ drop 15 old
+put-three old first second third x y z e f g lx ly lz room =
+    let five : length {A = ℕ} [] + length x ≡ 5 = omega (arith, lx) in
+    let one : sets old 0 x ≡ x ++ drop 5 old = put-after [] old x (omega (arith, lx)) ∙ ap (λ (n : ℕ). x ++ drop n old) five in
+    let ten : length x + length y ≡ 10 = omega (arith, lx, ly) in
+    let two : sets (x ++ drop 5 old) 5 y ≡ (x ++ y) ++ drop 10 old =
+    ap (λ (n : ℕ). sets (x ++ drop n old) n y) (sym lx) ∙ put-after x old y (omega (arith, lx, ly)) ∙ ap (λ (n : ℕ). (x ++ y) ++ drop n old) ten in
+    let both : length (x ++ y) ≡ 10 = length-append x y ∙ ten in
+    let fifteen : length (x ++ y) + length z ≡ 15 = omega (arith, both, lz) in
+    g ∙ ap (λ (b : List ℕ). sets b 10 z) (f ∙ ap (λ (b : List ℕ). sets b 5 y) (e ∙ one) ∙ two)
+    ∙ ap (λ (n : ℕ). sets ((x ++ y) ++ drop n old) n z) (sym both)
+    ∙ put-after (x ++ y) old z (omega (arith, both, lz))
+    ∙ ap (λ (n : ℕ). ((x ++ y) ++ z) ++ drop n old) fifteen
 
 -- the first byte, and i rows of k bytes each, are put
 pub record Put (row : ℕ → List ℕ) (k count : ℕ) (old : List ℕ) (i at : ℕ) (buffer : List ℕ) : Type 0 where
@@ -58,3 +83,7 @@ put-all row k count entry i at size buffer P end all =
     let place : at ≡ size = P .at-is ∙ ap (λ (n : ℕ). 1 + k * n) end ∙ all in
     P .is ∙ ap (λ (n : ℕ). (count ∷ rowsOf row n) ++ drop at (set entry 0 count)) end
     ∙ ap (λ (l : List ℕ). (count ∷ rowsOf row 64) ++ l) (drop-set-lt at entry 0 count (omega (arith, P .at-is)) ∙ ap (λ (n : ℕ). drop n entry) place)
+
+-- field i of row n lies within 64 rows behind byte 0
+pub row-inside : (width i n : ℕ) → i < width → n < 64 → 1 + n * width + i < 64 * width + 1
+row-inside width i n low few = omega (arith, mul-le-mul-right {m = suc n} {n = 64} width few)

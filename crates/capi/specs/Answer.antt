@@ -1,17 +1,34 @@
--- What the readers of the C interface answer, and the lent buffer afterwards. Assumes nothing.
+-- What the calls of the C interface answer, and the lent buffer afterwards. Assumes nothing.
 use mathlib.Core.Path.{_≡_}
 use mathlib.Core.Bool.{cond}
 use mathlib.Core.List.{List, _++_}
-use Prim.Native.Nat.{ℕ}
+use Prim.Native.Nat.{ℕ, _+_, _*_, _^_}
 use lib.ListN.{length, drop}
 use lib.Dec.{ltb}
 use Rattle.refusals.specs.Refusal.{numberOf}
 use Rattle.refusals.specs.declared.Refusal.the-variants.{TooShort}
 use Rattle.refusals.specs.declared.Verdict.{Verdict}
-use Rattle.capi.specs.Encoding.{codeOf}
+use Rattle.refusals.specs.Verdict.{refusalIn}
+use Rattle.run.specs.declared.Move.{Move}
+use Rattle.run.specs.declared.Place.{Place}
+use Rattle.run.specs.declared.Report.{Report}
+use Rattle.capi.specs.Encoding.{codeOf, runBytes}
 
 -- "A buffer lent for the answer .. that is too short gets 14, line 0, before anything else, and nothing is written";
 -- else the answer is the verdict's, the buffer starts with the record's bytes, "refused or not", and its rest stays
 pub record Answered (verdict : Verdict) (bytes : List ℕ) (size : ℕ) (entry exit : List ℕ) (answer : ℕ) : Type 0 where
   pub answer-is : answer ≡ cond (ltb (length entry) size) (numberOf TooShort) (codeOf verdict)
   pub buffer-is : exit ≡ cond (ltb (length entry) size) entry (bytes ++ drop size entry)
+
+-- "refusal × 2^32 + entry"
+unfoldable pub moveCode : Move → ℕ
+moveCode move = refusalIn (move .verdict) * 2 ^ 32 + move .entry
+
+-- "refusal × 256 + place (255 if refused)"
+unfoldable pub placeCode : Place → ℕ
+placeCode place = refusalIn (place .verdict) * 256 + place .place
+
+-- "refusal or 0; the run's bytes are the next run"; bytes too few for a run "count for nothing and stay"
+pub record Reported (report : Report) (entry exit : List ℕ) (answer : ℕ) : Type 0 where
+  pub answer-is : answer ≡ refusalIn (report .verdict)
+  pub run-is : exit ≡ cond (ltb (length entry) 15) entry (runBytes (report .run) ++ drop 15 entry)

@@ -1,12 +1,19 @@
 -- How the C interface writes records and verdicts as bytes and numbers. Assumes nothing.
+use mathlib.Core.Bool.{cond}
 use mathlib.Core.List.{List, [], _∷_, _++_}
 use Prim.Native.Nat.{ℕ, zero, suc, _+_, _*_, _%_, _^_}
-use lib.ListN.{getD}
+use lib.ListN.{length, getD}
+use lib.Dec.{ltb}
 use Rattle.refusals.specs.Refusal.{numberOf}
 use Rattle.refusals.specs.declared.Verdict.{Verdict}
 use Rattle.refusals.specs.declared.Verdict.the-variants.{Accepted, Refused}
+use Rattle.refusals.specs.Search.{tabulate}
 use Rattle.cell.specs.declared.Cell.{Cell}
+use Rattle.cell.specs.Reader.{noCell}
 use Rattle.recipe.specs.declared.Recipe.{Recipe}
+use Rattle.recipe.specs.Reader.{noRecipe}
+use Rattle.positions.specs.Position.{start}
+use Rattle.run.specs.declared.Run.{Run}
 
 -- the first n rows of a record, one after another
 unfoldable pub rowsOf : (ℕ → List ℕ) → ℕ → List ℕ
@@ -28,6 +35,51 @@ recipeRow r n = getD (r .point) n 0 ∷ getD (r .kind) n 0 ∷ getD (r .op) n 0 
 -- "byte 0 the line count, then 64 times `point, kind, op, takes, gives, then, else`"
 unfoldable pub recipeBytes : Recipe → List ℕ
 recipeBytes r = r .count ∷ rowsOf (recipeRow r) 64
+
+-- field i of each of the 64 rows of so many bytes that stand behind byte 0
+unfoldable pub columnOf : ℕ → List ℕ → ℕ → List ℕ
+columnOf width bytes i = tabulate 64 (λ n. getD bytes (1 + n * width + i) 0)
+
+-- the record that bytes hold; "A record handed in shorter than that counts as one of no lines"
+unfoldable pub cellFrom : List ℕ → Cell
+cellFrom bytes =
+    cond (ltb (length bytes) 321) noCell
+    (record {
+      count = getD bytes 0 0;
+      resource = columnOf 5 bytes 0;
+      from = columnOf 5 bytes 1;
+      act = columnOf 5 bytes 2;
+      arg = columnOf 5 bytes 3;
+      to = columnOf 5 bytes 4;
+    })
+
+unfoldable pub recipeFrom : List ℕ → Recipe
+recipeFrom bytes =
+    cond (ltb (length bytes) 449) noRecipe
+    (record {
+      count = getD bytes 0 0;
+      point = columnOf 7 bytes 0;
+      kind = columnOf 7 bytes 1;
+      op = columnOf 7 bytes 2;
+      takes = columnOf 7 bytes 3;
+      gives = columnOf 7 bytes 4;
+      then = columnOf 7 bytes 5;
+      otherwise = columnOf 7 bytes 6;
+    })
+
+-- "Of a run: point, six states, eight places (15 bytes)"
+unfoldable pub runBytes : Run → List ℕ
+runBytes run =
+    run .point ∷ tabulate 6 (λ k. getD (run .configuration .state) k 0) ++ tabulate 8 (λ n. getD (run .configuration .place) n 0)
+
+-- the run that bytes hold; "a run shorter than that as one out of range": no recipe has a point 255
+unfoldable pub runFrom : List ℕ → Run
+runFrom bytes =
+    cond (ltb (length bytes) 15) (record { point = 255; configuration = start })
+    (record {
+      point = getD bytes 0 0;
+      configuration = record { state = tabulate 6 (λ k. getD bytes (1 + k) 0); place = tabulate 8 (λ n. getD bytes (7 + n) 0) };
+    })
 
 -- "refusal + 256 × line, 0 if accepted"; the line modulo 2 ^ 56, so that it fits for any file
 unfoldable pub codeOf : Verdict → ℕ

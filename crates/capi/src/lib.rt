@@ -1,4 +1,5 @@
 // The C interface. No call has a requires: what is handed in may hold anything.
+mod get;
 mod put;
 
 ghost use mathlib.Core.Path.{_≡_};
@@ -6,10 +7,15 @@ ghost use lib.ListN.{length};
 ghost use Rattle.tables.specs.Lines.{lineStart, shownLine};
 ghost use Rattle.cell.specs.Reader.{readCell};
 ghost use Rattle.recipe.specs.Reader.{readRecipe};
-ghost use Rattle.capi.specs.Encoding.{codeOf, cellBytes, recipeBytes};
-ghost use Rattle.capi.specs.Answer.{Answered};
+ghost use Rattle.refusals.specs.declared.Verdict.the-variants.{Accepted};
+ghost use Rattle.refusals.specs.Verdict.{refusalIn};
+ghost use Rattle.positions.specs.Rules.{checkSizes};
+ghost use Rattle.run.specs.Calls.{freshRun, nextMove, reportOf, placeOf};
+ghost use Rattle.capi.specs.Encoding.{codeOf, cellBytes, recipeBytes, cellFrom, recipeFrom, runBytes, runFrom};
+ghost use Rattle.capi.specs.Answer.{Answered, moveCode, placeCode, Reported};
 use refusals::Refusal;
 use refusals::Verdict;
+use run::Run;
 
 // A verdict as one number: the refusal and 256 times the line, 0 if accepted. The line is taken
 // modulo 2 ^ 56, so that it fits for any file.
@@ -70,4 +76,80 @@ pub extern "C" fn cellplan_line_length(file: &[u8], n: usize) -> usize
 {
     let line = tables::lines::show_line(file, n);
     line.len()
+}
+
+// The number of a verdict's refusal, 0 if it accepts.
+fn refusal_number(verdict: Verdict) -> u8
+    ensures { λ r. ⌜ r ≡ refusalIn verdict ⌝ }
+{
+    match verdict {
+        Verdict::Accepted => 0,
+        Verdict::Refused(refusal, _) => refusals::number(refusal),
+    }
+}
+
+// Tries rules 3 to 13 on a cell and a recipe.
+#[no_mangle]
+pub extern "C" fn cellplan_check(cell: &[u8], recipe: &[u8]) -> u32
+    ensures { λ r. ⌜ r ≡ refusalIn (checkSizes (cellFrom (now (cell .entry))) (recipeFrom (now (recipe .entry)))) ⌝ }
+{
+    let verdict = positions::check(get::get_cell(cell), get::get_recipe(recipe));
+    refusal_number(verdict) as u32
+}
+
+// Writes a fresh run.
+#[no_mangle]
+pub extern "C" fn cellplan_fresh(buffer: &mut [u8]) -> u32
+    ensures { λ r. ⌜ Answered Accepted (runBytes freshRun) 15 (now (buffer .entry)) (now (buffer .exit)) r ⌝ }
+{
+    if buffer.len() < 15 {
+        return refusals::number(Refusal::TooShort) as u32;
+    }
+    put::put_run(Run::fresh(), buffer);
+    0
+}
+
+// The move at a run's position.
+#[no_mangle]
+pub extern "C" fn cellplan_next_move(cell: &[u8], recipe: &[u8], table: &[u32], bytes: &[u8]) -> u64
+    ensures { λ r. ⌜ r ≡ moveCode (nextMove (cellFrom (now (cell .entry))) (recipeFrom (now (recipe .entry))) (now (table .entry)) (runFrom (now (bytes .entry)))) ⌝ }
+{
+    let run = get::get_run(bytes);
+    let answer = run.next_move(get::get_cell(cell), get::get_recipe(recipe), table);
+    let verdict = answer.verdict;
+    refusal_number(verdict) as u64 * 4294967296 + answer.entry as u64
+}
+
+// Writes the next run over a run, or leaves it if the report is refused.
+#[no_mangle]
+pub extern "C" fn cellplan_report(
+    cell: &[u8],
+    recipe: &[u8],
+    table: &[u32],
+    buffer: &mut [u8],
+    outcome: u8,
+) -> u32
+    ensures { λ r. ⌜ Reported (reportOf (cellFrom (now (cell .entry))) (recipeFrom (now (recipe .entry))) (now (table .entry)) (runFrom (now (buffer .entry))) outcome) (now (buffer .entry)) (now (buffer .exit)) r ⌝ }
+{
+    let run = get::get_run(buffer);
+    let answer = run.report(get::get_cell(cell), get::get_recipe(recipe), table, outcome);
+    let verdict = answer.verdict;
+    let refusal = refusal_number(verdict) as u32;
+    if buffer.len() < 15 {
+        return refusal;
+    }
+    let next = answer.run;
+    put::put_run(next, buffer);
+    refusal
+}
+
+// The place of a part.
+#[no_mangle]
+pub extern "C" fn cellplan_place(cell: &[u8], recipe: &[u8], bytes: &[u8], part: u8) -> u32
+    ensures { λ r. ⌜ r ≡ placeCode (placeOf (cellFrom (now (cell .entry))) (recipeFrom (now (recipe .entry))) (runFrom (now (bytes .entry))) part) ⌝ }
+{
+    let run = get::get_run(bytes);
+    let answer = run.place(get::get_cell(cell), get::get_recipe(recipe), part);
+    let verdict = answer.verdict;
+    refusal_number(verdict) as u32 * 256 + answer.place as u32
 }

@@ -4,9 +4,10 @@ ghost use mathlib.Core.List.{[], _∷_, _++_};
 ghost use Prim.Native.Nat.{_+_, _≤_};
 ghost use lib.ListN.{length, drop};
 ghost use lib.Seq.{sets};
-ghost use Rattle.capi.specs.Encoding.{cellBytes, recipeBytes};
+ghost use Rattle.capi.specs.Encoding.{cellBytes, recipeBytes, runBytes};
 use cell::Cell;
 use recipe::Recipe;
+use run::Run;
 
 // Stores five bytes from a place on.
 fn put_five(buffer: &mut [u8], at: usize, a: u8, b: u8, c: u8, d: u8, e: u8)
@@ -86,4 +87,17 @@ pub fn put_recipe(recipe: Recipe, buffer: &mut [u8])
         at += 7;
         i += 1;
     }
+}
+
+// Writes a run to the buffer's start.
+pub fn put_run(run: Run, buffer: &mut [u8])
+    requires { ⌜ 15 ≤ length (now buffer) ⌝ }
+    ensures { λ _. ⌜ now (buffer .exit) ≡ runBytes run ++ drop 15 (now (buffer .entry)) ⌝ }
+{
+    let configuration = run.configuration;
+    let state = configuration.state;
+    let place = configuration.place;
+    put_five(buffer, 0, run.point, state[0], state[1], state[2], state[3]);
+    put_five(buffer, 5, state[4], state[5], place[0], place[1], place[2]);
+    put_five(buffer, 10, place[3], place[4], place[5], place[6], place[7]);
 }

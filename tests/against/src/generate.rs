@@ -6,13 +6,14 @@ use crate::{CellFile, Format, RecipeFile};
 /// The value lines of a file as numbers.
 pub type Rows = Vec<Vec<u32>>;
 
-const OPERATION: u32 = 1;
-const IN: u32 = 2;
-const OUT: u32 = 3;
+pub(crate) const INTERNAL: u32 = 0;
+pub(crate) const OPERATION: u32 = 1;
+pub(crate) const IN: u32 = 2;
+pub(crate) const OUT: u32 = 3;
 
-const END: u32 = 0;
-const DO: u32 = 1;
-const TEST: u32 = 2;
+pub(crate) const END: u32 = 0;
+pub(crate) const DO: u32 = 1;
+pub(crate) const TEST: u32 = 2;
 
 const PARTS: usize = 8;
 
@@ -56,6 +57,17 @@ pub fn file<F: Format>(rows: &[Vec<u32>]) -> Vec<u8> {
         file.push(b'\n');
     }
     file
+}
+
+/// The record with these value lines, as bytes. A number that no byte holds becomes 255.
+pub fn record<F: Format>(rows: &[Vec<u32>]) -> Vec<u8> {
+    let mut record = vec![0; F::RECORD_BYTES];
+    record[0] = rows.len().min(255) as u8;
+    let numbers = rows.iter().flatten();
+    for (byte, &number) in record[1..].iter_mut().zip(numbers) {
+        *byte = number.min(255) as u8;
+    }
+    record
 }
 
 fn push_number(text: &mut Vec<u8>, number: u32) {

@@ -1,8 +1,15 @@
-//! The library's C interface as safe functions, and the two file formats with the library's reader
-//! and the independent one under the same signature, so that one test serves both formats.
+//! The library's C interface as safe functions: the two file formats with the library's reader and
+//! the independent one under the same signature, so that one test serves both formats; and so too the
+//! calls on records and runs.
 
+pub mod calls;
 pub mod generate;
+pub mod pairs;
 pub mod random;
+pub mod rounds;
+
+/// For the benchmark, which depends on this package alone.
+pub use independent;
 
 use independent::{
     cell_bytes, read_cell, read_recipe, recipe_bytes, Refusal, CELL_BYTES, CELL_NAMES,
@@ -28,6 +35,43 @@ mod c {
         ) -> u64;
         pub fn cellplan_line_start(file: *const u8, file_length: usize, n: usize) -> usize;
         pub fn cellplan_line_length(file: *const u8, file_length: usize, n: usize) -> usize;
+        pub fn cellplan_check(
+            cell: *const u8,
+            cell_length: usize,
+            recipe: *const u8,
+            recipe_length: usize,
+        ) -> u32;
+        pub fn cellplan_fresh(run: *mut u8, run_length: usize) -> u32;
+        pub fn cellplan_next_move(
+            cell: *const u8,
+            cell_length: usize,
+            recipe: *const u8,
+            recipe_length: usize,
+            table: *const u32,
+            table_entries: usize,
+            run: *const u8,
+            run_length: usize,
+        ) -> u64;
+        pub fn cellplan_report(
+            cell: *const u8,
+            cell_length: usize,
+            recipe: *const u8,
+            recipe_length: usize,
+            table: *const u32,
+            table_entries: usize,
+            run: *mut u8,
+            run_length: usize,
+            outcome: u8,
+        ) -> u32;
+        pub fn cellplan_place(
+            cell: *const u8,
+            cell_length: usize,
+            recipe: *const u8,
+            recipe_length: usize,
+            run: *const u8,
+            run_length: usize,
+            part: u8,
+        ) -> u32;
     }
 }
 

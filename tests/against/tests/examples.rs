@@ -1,4 +1,4 @@
-//! The C example, compiled against the library and run on good and damaged files.
+//! The C examples, compiled against the library and run on good and damaged files.
 
 use std::fs;
 use std::path::{Path, PathBuf};
@@ -7,6 +7,7 @@ use std::sync::OnceLock;
 
 const BENCH_CELL: &str = include_str!("../../../examples/bench/cell.csv");
 const BENCH_RECIPE: &str = include_str!("../../../examples/bench/recipe.csv");
+const BENCH_TABLE: &str = include_str!("../../../examples/bench/table.csv");
 
 fn root() -> &'static Path {
     Path::new(env!("CARGO_MANIFEST_DIR"))
@@ -15,31 +16,40 @@ fn root() -> &'static Path {
         .expect("the package stands two folders below the workspace")
 }
 
-/// The example program, compiled once for all tests.
-fn program() -> &'static Path {
+/// An example program, compiled against the library.
+fn compile(name: &str) -> PathBuf {
+    let program = Path::new(env!("CARGO_TARGET_TMPDIR")).join(name);
+    let status = Command::new("cc")
+        .args([
+            "-std=c99",
+            "-pedantic",
+            "-Wall",
+            "-Wextra",
+            "-Werror",
+            "-O2",
+            "-I",
+        ])
+        .arg(root().join("include"))
+        .arg("-o")
+        .arg(&program)
+        .arg(root().join(format!("examples/c/{name}.c")))
+        .arg(root().join("target/staticlib/libcapi.a"))
+        .status()
+        .expect("cc starts");
+    assert!(status.success(), "cc: {status}");
+    program
+}
+
+/// The program that checks files, compiled once for all tests.
+fn check_files() -> &'static Path {
     static PROGRAM: OnceLock<PathBuf> = OnceLock::new();
-    PROGRAM.get_or_init(|| {
-        let program = Path::new(env!("CARGO_TARGET_TMPDIR")).join("check_files");
-        let status = Command::new("cc")
-            .args([
-                "-std=c99",
-                "-pedantic",
-                "-Wall",
-                "-Wextra",
-                "-Werror",
-                "-O2",
-                "-I",
-            ])
-            .arg(root().join("include"))
-            .arg("-o")
-            .arg(&program)
-            .arg(root().join("examples/c/check_files.c"))
-            .arg(root().join("target/staticlib/libcapi.a"))
-            .status()
-            .expect("cc starts");
-        assert!(status.success(), "cc: {status}");
-        program
-    })
+    PROGRAM.get_or_init(|| compile("check_files"))
+}
+
+/// The program that follows a table, compiled once for all tests.
+fn follow_table() -> &'static Path {
+    static PROGRAM: OnceLock<PathBuf> = OnceLock::new();
+    PROGRAM.get_or_init(|| compile("follow"))
 }
 
 fn expected(name: &str) -> String {
@@ -47,28 +57,50 @@ fn expected(name: &str) -> String {
     fs::read_to_string(stored).expect("the expected output is there")
 }
 
-/// Runs the example in a folder with these files, where they are given, and compares what it prints
-/// with the stored output `expected/NAME.txt`.
-fn check(name: &str, cell: Option<&str>, recipe: Option<&str>) {
-    let folder = Path::new(env!("CARGO_TARGET_TMPDIR")).join(name);
+/// A folder of this name with these files, where they are given.
+fn folder(name: &str, files: &[(&str, Option<&str>)]) -> PathBuf {
+    let folder = Path::new(env!("CARGO_TARGET_TMPDIR"))
+        .join("files")
+        .join(name);
     if folder.exists() {
         fs::remove_dir_all(&folder).expect("an earlier run's folder can be removed");
     }
     fs::create_dir_all(&folder).expect("a folder can be made");
-    for (file, text) in [("cell.csv", cell), ("recipe.csv", recipe)] {
+    for (file, text) in files {
         if let Some(text) = text {
             fs::write(folder.join(file), text).expect("a file can be written");
         }
     }
-    let output = Command::new(program())
-        .args([folder.join("cell.csv"), folder.join("recipe.csv")])
-        .output()
-        .expect("the example starts");
+    folder
+}
+
+/// Compares what an example prints with the stored output `expected/NAME.txt`.
+fn compare(name: &str, command: &mut Command) {
+    let output = command.output().expect("the example starts");
     let expected = expected(name);
     assert_eq!(String::from_utf8_lossy(&output.stdout), expected);
     assert_eq!(String::from_utf8_lossy(&output.stderr), "");
     let status = if expected.contains("refused") { 1 } else { 0 };
     assert_eq!(output.status.code(), Some(status));
+}
+
+/// Checks these files, where they are given.
+fn check(name: &str, cell: Option<&str>, recipe: Option<&str>) {
+    let folder = folder(name, &[("cell.csv", cell), ("recipe.csv", recipe)]);
+    let files = ["cell.csv", "recipe.csv"].map(|file| folder.join(file));
+    compare(name, Command::new(check_files()).args(files));
+}
+
+/// Follows a table of these files.
+fn follow(name: &str, [cell, recipe, table]: [&str; 3], outcomes: &str) {
+    let files = [
+        ("cell.csv", Some(cell)),
+        ("recipe.csv", Some(recipe)),
+        ("table.csv", Some(table)),
+    ];
+    let folder = folder(name, &files);
+    let files = files.map(|(file, _)| folder.join(file));
+    compare(name, Command::new(follow_table()).args(files).arg(outcomes));
 }
 
 #[test]
@@ -77,13 +109,15 @@ fn the_bench_example() {
 }
 
 #[test]
-fn the_script_builds_and_runs_the_example() {
-    let output = Command::new(root().join("examples/c/run"))
-        .current_dir(env!("CARGO_TARGET_TMPDIR"))
-        .output()
-        .expect("the script starts");
-    assert_eq!(String::from_utf8_lossy(&output.stdout), expected("bench"));
-    assert!(output.status.success());
+fn the_scripts_build_and_run_the_examples() {
+    for (script, name) in [("run", "bench"), ("follow", "follow")] {
+        let output = Command::new(root().join("examples/c").join(script))
+            .current_dir(env!("CARGO_TARGET_TMPDIR"))
+            .output()
+            .expect("the script starts");
+        assert_eq!(String::from_utf8_lossy(&output.stdout), expected(name));
+        assert!(output.status.success());
+    }
 }
 
 #[test]
@@ -117,4 +151,31 @@ fn a_file_longer_than_the_first_read() {
     let cell = format!("{BENCH_CELL}{}0,0\n", "0,0,1,1,1\n".repeat(1000));
     let recipe = "point,kind,op,takes,gives,then,else\n0,0,0,0,0,0,0\n";
     check("long", Some(&cell), Some(recipe));
+}
+
+#[test]
+fn the_bench_example_followed_to_its_end() {
+    let files = [BENCH_CELL, BENCH_RECIPE, BENCH_TABLE];
+    follow("follow", files, "0010");
+}
+
+#[test]
+fn a_failed_test_and_an_outcome_that_is_none() {
+    let files = [BENCH_CELL, BENCH_RECIPE, BENCH_TABLE];
+    follow("rework", files, "000012");
+}
+
+#[test]
+fn a_table_that_belongs_to_another_cell() {
+    // The test is made from another state, so that the entry for it is no longer open.
+    let cell = BENCH_CELL.replace("1,1,1,2,2", "1,2,1,2,2");
+    follow("stale", [&cell, BENCH_RECIPE, BENCH_TABLE], "0010");
+}
+
+#[test]
+fn a_cell_and_a_recipe_that_are_too_great_together() {
+    let states = "0,7,0,0,0\n1,7,0,0,0\n2,7,0,0,0\n3,7,0,0,0\n";
+    let cell = format!("resource,from,act,arg,to\n{states}");
+    let recipe = BENCH_RECIPE.replace("0,1,1,0,1,1,0", "0,1,1,0,128,1,0");
+    follow("great", [&cell, &recipe, BENCH_TABLE], "0010");
 }

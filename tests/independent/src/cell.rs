@@ -11,8 +11,10 @@ pub const CELL_BYTES: usize = 1 + 5 * MOST_LINES;
 /// The top of each column's range.
 const GREATEST: [u8; 5] = [5, 7, 3, 63, 7];
 
-const IN: u8 = 2;
-const OUT: u8 = 3;
+pub(crate) const INTERNAL: u8 = 0;
+pub(crate) const OPERATION: u8 = 1;
+pub(crate) const IN: u8 = 2;
+pub(crate) const OUT: u8 = 3;
 
 /// The value lines of a cell file, an array for each column. What stands past `count` lines counts
 /// for nothing.
@@ -137,18 +139,28 @@ pub fn cell_bytes(cell: &Cell) -> [u8; CELL_BYTES] {
     bytes
 }
 
+/// The record that the bytes say. Those past its end count for nothing, and too few bytes are a
+/// record of no lines.
+pub fn cell_of_bytes(bytes: &[u8]) -> Cell {
+    let mut cell = Cell::EMPTY;
+    if let Some(bytes) = bytes.get(..CELL_BYTES) {
+        cell.count = bytes[0];
+        for (n, line) in bytes[1..].chunks_exact(5).enumerate() {
+            cell.resource[n] = line[0];
+            cell.from[n] = line[1];
+            cell.act[n] = line[2];
+            cell.arg[n] = line[3];
+            cell.to[n] = line[4];
+        }
+    }
+    cell
+}
+
 #[cfg(test)]
 mod tests {
     use super::*;
+    use crate::fixtures::BENCH_CELL as BENCH;
     use crate::table::tests::file_of;
-
-    const BENCH: [&str; 5] = [
-        "0,0,1,1,1",
-        "0,1,3,5,0",
-        "1,0,2,5,1",
-        "1,1,1,2,2",
-        "1,2,1,3,0",
-    ];
 
     fn file(lines: &[&str]) -> Vec<u8> {
         file_of(CELL_NAMES, lines)
@@ -192,6 +204,18 @@ mod tests {
         assert_eq!(bytes[21..27], [1, 2, 1, 3, 0, 0]);
         assert!(bytes[26..].iter().all(|&byte| byte == 0));
         assert_eq!(cell_bytes(&Cell::EMPTY), [0; CELL_BYTES]);
+    }
+
+    #[test]
+    fn bytes_are_read_back_unless_they_are_too_few() {
+        let mut cell = bench_record();
+        cell.to[63] = 200;
+        let mut bytes = cell_bytes(&cell).to_vec();
+        assert_eq!(cell_of_bytes(&bytes), cell);
+        bytes.extend_from_slice(&[9; 4]);
+        assert_eq!(cell_of_bytes(&bytes), cell);
+        assert_eq!(cell_of_bytes(&bytes[..CELL_BYTES - 1]), Cell::EMPTY);
+        assert_eq!(cell_of_bytes(&[]), Cell::EMPTY);
     }
 
     #[test]

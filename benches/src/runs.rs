@@ -1,0 +1,170 @@
+//! The calls of a run. Both programs are handed the same bytes and check them anew at every call; a
+//! report begins from the same run each time, whose 15 bytes are copied before each call.
+
+use crate::best_times;
+use against::calls::{Calls, Independent, Library};
+use against::independent::{entry_of, run_bytes, run_of_bytes, Run, CARRY, INTERNAL, TRANSFER};
+use against::pairs::full_pair;
+use against::rounds::accepted;
+use against::{CellFile, Format, RecipeFile};
+use std::hint::black_box;
+use std::time::{Duration, Instant};
+
+const BENCH_CELL: &[u8] = include_bytes!("../../examples/bench/cell.csv");
+const BENCH_RECIPE: &[u8] = include_bytes!("../../examples/bench/recipe.csv");
+
+/// A run with the entry at its position, and all that the calls are handed.
+struct Case {
+    name: String,
+    cell: Vec<u8>,
+    recipe: Vec<u8>,
+    table: Vec<u32>,
+    run: [u8; 15],
+}
+
+impl Case {
+    /// A table of M entries with this one at the run's position. The entry must be open there.
+    fn new(name: &str, cell: &[u8], recipe: &[u8], run: [u8; 15], entry: u32) -> Case {
+        let (_, _, sizes) = accepted(cell, recipe).expect("the case is accepted");
+        let Run {
+            point,
+            configuration,
+        } = run_of_bytes(&run);
+        let mut table = vec![0; sizes.positions as usize];
+        table[sizes.position(point, &configuration) as usize] = entry;
+        Case {
+            name: name.to_string(),
+            cell: cell.to_vec(),
+            recipe: recipe.to_vec(),
+            table,
+            run,
+        }
+    }
+
+    fn next_move<C: Calls>(&self, calls: usize) -> Duration {
+        let start = Instant::now();
+        for _ in 0..calls {
+            let (cell, recipe) = (black_box(&self.cell), black_box(&self.recipe));
+            let (table, run) = (black_box(&self.table), black_box(&self.run));
+            black_box(C::next_move(cell, recipe, table, run));
+        }
+        start.elapsed()
+    }
+
+    fn report<C: Calls>(&self, calls: usize) -> Duration {
+        let start = Instant::now();
+        for _ in 0..calls {
+            let (cell, recipe) = (black_box(&self.cell), black_box(&self.recipe));
+            let (table, mut run) = (black_box(&self.table), *black_box(&self.run));
+            black_box(C::report(cell, recipe, table, &mut run, black_box(1)));
+            black_box(&run);
+        }
+        start.elapsed()
+    }
+
+    /// Prints a line for each call, after a look at whether both make the same of the case.
+    fn measure(&self) {
+        let answers = [Library::next_move, Independent::next_move]
+            .map(|next_move| next_move(&self.cell, &self.recipe, &self.table, &self.run));
+        assert_eq!(answers[0], answers[1], "{}", self.name);
+        let reports = [Library::report, Independent::report].map(|report| {
+            let mut run = self.run;
+            let refusal = report(&self.cell, &self.recipe, &self.table, &mut run, 1);
+            (refusal, run)
+        });
+        assert_eq!(reports[0], reports[1], "{}", self.name);
+        assert_eq!(reports[0].0, 0, "{}: the move is open", self.name);
+
+        self.print(
+            "next-move",
+            best_times([
+                &mut |calls| self.next_move::<Library>(calls),
+                &mut |calls| self.next_move::<Independent>(calls),
+            ]),
+        );
+        self.print(
+            "report",
+            best_times([&mut |calls| self.report::<Library>(calls), &mut |calls| {
+                self.report::<Independent>(calls)
+            }]),
+        );
+    }
+
+    fn print(&self, call: &str, [library, independent]: [f64; 2]) {
+        println!(
+            "{:<48} {call:>9} {library:>9.1} ns {independent:>9.1} ns {:>6.2}",
+            self.name,
+            library / independent
+        );
+    }
+}
+
+pub fn measure_all() {
+    println!(
+        "{:<48} {:>9} {:>12} {:>12} {:>6}",
+        "cell, recipe and move", "call", "library", "independent", "ratio"
+    );
+    for case in bench_cases() {
+        case.measure();
+    }
+    short_case().measure();
+    for case in full_cases() {
+        case.measure();
+    }
+}
+
+/// The bench example at the positions 0, 22 and 26.
+fn bench_cases() -> [Case; 3] {
+    let mut cell = [0; CellFile::RECORD_BYTES];
+    let mut recipe = [0; RecipeFile::RECORD_BYTES];
+    assert_eq!(CellFile::library(BENCH_CELL, &mut cell), 0);
+    assert_eq!(RecipeFile::library(BENCH_RECIPE, &mut recipe), 0);
+    let (_, _, sizes) = accepted(&cell, &recipe).expect("the bench example is accepted");
+    [
+        ("bench example, do", 0, 50_331_648),
+        ("bench example, transfer", 22, 33_554_561),
+        ("bench example, test", 26, 50_331_651),
+    ]
+    .map(|(name, position, entry)| {
+        let (point, configuration) = sizes.at(position);
+        let run = run_bytes(&Run {
+            point,
+            configuration,
+        });
+        Case::new(name, &cell, &recipe, run, entry)
+    })
+}
+
+/// A cell of 64 lines with a recipe of two lines, whose one part is at the last station.
+fn short_case() -> Case {
+    let mut pair = full_pair();
+    pair.recipe = vec![vec![0, 1, 2, 1, 1, 1, 0], vec![1, 0, 0, 0, 0, 0, 0]];
+    let run = [0, 0, 0, 0, 0, 0, 0, 4, 0, 0, 0, 0, 0, 0, 0];
+    let entry = entry_of(CARRY, [39, 0, 0, 0]);
+    let (cell, recipe) = (pair.cell_bytes(), pair.recipe_bytes());
+    Case::new(
+        "64-line cell, 2-line recipe, do",
+        &cell,
+        &recipe,
+        run,
+        entry,
+    )
+}
+
+/// A cell of 64 lines with a recipe of 64 lines, at the last point, with part n at station n.
+fn full_cases() -> [Case; 3] {
+    let pair = full_pair();
+    let (cell, recipe) = (pair.cell_bytes(), pair.recipe_bytes());
+    let run = [15, 0, 0, 0, 0, 0, 0, 1, 2, 3, 4, 0, 0, 0, 0];
+    let mut before_out = run;
+    before_out[1] = 1;
+    [
+        ("internal", run, INTERNAL, [48, 0, 0, 0]),
+        ("transfer", before_out, TRANSFER, [28, 25, 0, 0]),
+        ("do of four lines", run, CARRY, [36, 37, 38, 39]),
+    ]
+    .map(|(name, run, kind, letters)| {
+        let name = format!("64-line cell, 64-line recipe, {name}");
+        Case::new(&name, &cell, &recipe, run, entry_of(kind, letters))
+    })
+}

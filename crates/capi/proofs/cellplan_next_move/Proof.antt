@@ -1,0 +1,56 @@
+use mathlib.Core.Path.{ap, _∙_}
+use Prim.Native.Nat.{ℕ, _+_, _*_}
+use Rattle.run.specs.Calls.{nextMove}
+use Rattle.capi.specs.Answer.{moveCode}
+use borrow.Author.Needs.{needs}
+use Rattle.capi.proofs.cellplan_next_move.Statement.{statement}
+use Rattle.capi.proofs.cellplan_next_move.Tie as tie
+
+get-run-requires : tie.Need-get-run-requires
+get-run-requires c κs = search needs
+
+get-cell-requires : tie.Need-get-cell-requires
+get-cell-requires c κs = search needs
+
+get-recipe-requires : tie.Need-get-recipe-requires
+get-recipe-requires c κs = search needs
+
+next-move-requires : tie.Need-next-move-requires
+next-move-requires c κs = search needs
+
+refusal-number-requires : tie.Need-refusal-number-requires
+refusal-number-requires c κs = search needs
+
+cast-result : tie.Need-cast-result
+cast-result c = search needs
+
+mul-result : tie.Need-mul-result
+mul-result c = search needs
+
+cast-result-2 : tie.Need-cast-result-2
+cast-result-2 c = search needs
+
+add-result : tie.Need-add-result
+add-result c = search needs
+
+returns : tie.Need-returns
+unfolding moveCode
+returns c =
+    let move = c .before .before .next-move .result in
+    ap (λ (n : ℕ). n * 4294967296 + move .entry) (c .before .refusal-number .ensures)
+    ∙ ap moveCode (c .before .before .next-move .ensures ∙ (λ i. nextMove (c .before .before .before .before .get-cell .ensures i) (c .before .before .before .get-recipe .ensures i) (c .before .before .before .before .before .before .before .before .before .before .args .table .now) (c .before .before .before .before .before .get-run .ensures i)))
+
+pub cellplan-next-move-spec : {M : Type 1} → statement M
+cellplan-next-move-spec =
+    tie.close
+    (tie.spec
+    get-run-requires
+    get-cell-requires
+    get-recipe-requires
+    next-move-requires
+    refusal-number-requires
+    cast-result
+    mul-result
+    cast-result-2
+    add-result
+    returns)

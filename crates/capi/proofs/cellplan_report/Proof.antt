@@ -1,0 +1,59 @@
+use mathlib.Core.Path.{_∙_}
+use Rattle.run.specs.Calls.{reportOf}
+use Rattle.capi.proofs.Answers.{report-short, report-put}
+use borrow.Author.Needs.{needs}
+use Rattle.capi.proofs.cellplan_report.Statement.{statement}
+use Rattle.capi.proofs.cellplan_report.Tie as tie
+
+get-run-requires : tie.Need-get-run-requires
+get-run-requires c κs = search needs
+
+get-cell-requires : tie.Need-get-cell-requires
+get-cell-requires c κs = search needs
+
+get-recipe-requires : tie.Need-get-recipe-requires
+get-recipe-requires c κs = search needs
+
+report-requires : tie.Need-report-requires
+report-requires c κs = search needs
+
+refusal-number-requires : tie.Need-refusal-number-requires
+refusal-number-requires c κs = search needs
+
+cast-refusal : tie.Need-cast-refusal
+cast-refusal c = search needs
+
+same-length : tie.Need-same-length
+same-length c = search needs
+
+returns : tie.Need-returns
+returns c =
+    let start = c .before .before .before .before .before .before .before .before .before .before .before in
+    report-short _ _ (start .args .buffer .now) _ (c .before .before .report .ensures ∙ (λ i. reportOf (c .before .before .before .before .get-cell .ensures i) (c .before .before .before .get-recipe .ensures i) (start .args .table .now) (c .before .before .before .before .before .get-run .ensures i) (start .args .outcome))) (c .before .refusal-number .ensures) (c .if1 .taken)
+
+put-run-requires : tie.Need-put-run-requires
+put-run-requires c κs = search needs
+
+same-length-2 : tie.Need-same-length-2
+same-length-2 c = search needs
+
+returns-2 : tie.Need-returns-2
+returns-2 c =
+    let start = c .before .before .before .before .before .before .before .before .before .before .before .before .before .before .before .before in
+    report-put _ _ (start .args .buffer .now) _ (c .before .before .before .before .before .before .before .report .ensures ∙ (λ i. reportOf (c .before .before .before .before .before .before .before .before .before .get-cell .ensures i) (c .before .before .before .before .before .before .before .before .get-recipe .ensures i) (start .args .table .now) (c .before .before .before .before .before .before .before .before .before .before .get-run .ensures i) (start .args .outcome))) (c .before .before .before .before .before .before .refusal-number .ensures) _ (c .before .before .before .before .before .if1 .left) (c .before .before .put-run .ensures)
+
+pub cellplan-report-spec : {M : Type 1} → statement M
+cellplan-report-spec =
+    tie.close
+    (tie.spec
+    get-run-requires
+    get-cell-requires
+    get-recipe-requires
+    report-requires
+    refusal-number-requires
+    cast-refusal
+    same-length
+    returns
+    put-run-requires
+    same-length-2
+    returns-2)

@@ -1,0 +1,136 @@
+// Records and runs read from bytes.
+ghost use mathlib.Core.Path.{_≡_};
+ghost use Prim.Native.Nat.{_+_, _*_, _<_, _≤_};
+ghost use lib.ListN.{length};
+ghost use Rattle.capi.specs.Encoding.{columnOf, cellFrom, recipeFrom, runFrom};
+use cell::Cell;
+use positions::Configuration;
+use recipe::Recipe;
+use run::Run;
+
+// A line count from its byte.
+fn count_from(byte: u8) -> usize
+    ensures { λ r. ⌜ r ≡ byte ⌝ }
+{
+    byte as usize
+}
+
+// Field i of each of the 64 rows behind byte 0.
+fn column(bytes: &[u8], width: usize, i: usize) -> [u8; 64]
+    requires { ⌜ (width ≤ 7) × (i < width) ⌝ }
+    requires { ⌜ 64 * width + 1 ≤ length (now bytes) ⌝ }
+    ensures { λ r. ⌜ r ≡ columnOf width (now (bytes .entry)) i ⌝ }
+{
+    let mut column = [0u8; 64];
+    let mut n = 0;
+    while n < 64 {
+        column[n] = bytes[1 + n * width + i];
+        n += 1;
+    }
+    column
+}
+
+// The cell record that bytes hold, one of no lines if they are too few.
+pub fn get_cell(bytes: &[u8]) -> Cell
+    ensures { λ r. ⌜ r ≡ cellFrom (now (bytes .entry)) ⌝ }
+{
+    if bytes.len() < 321 {
+        return Cell {
+            count: 0,
+            resource: [0u8; 64],
+            from: [0u8; 64],
+            act: [0u8; 64],
+            arg: [0u8; 64],
+            to: [0u8; 64],
+        };
+    }
+    let count = count_from(bytes[0]);
+    let resource = column(bytes, 5, 0);
+    let from = column(bytes, 5, 1);
+    let act = column(bytes, 5, 2);
+    let arg = column(bytes, 5, 3);
+    let to = column(bytes, 5, 4);
+    Cell {
+        count,
+        resource,
+        from,
+        act,
+        arg,
+        to,
+    }
+}
+
+// The recipe record that bytes hold, one of no lines if they are too few.
+pub fn get_recipe(bytes: &[u8]) -> Recipe
+    ensures { λ r. ⌜ r ≡ recipeFrom (now (bytes .entry)) ⌝ }
+{
+    if bytes.len() < 449 {
+        return Recipe {
+            count: 0,
+            point: [0u8; 64],
+            kind: [0u8; 64],
+            op: [0u8; 64],
+            takes: [0u8; 64],
+            gives: [0u8; 64],
+            then: [0u8; 64],
+            otherwise: [0u8; 64],
+        };
+    }
+    let count = count_from(bytes[0]);
+    let point = column(bytes, 7, 0);
+    let kind = column(bytes, 7, 1);
+    let op = column(bytes, 7, 2);
+    let takes = column(bytes, 7, 3);
+    let gives = column(bytes, 7, 4);
+    let then = column(bytes, 7, 5);
+    let otherwise = column(bytes, 7, 6);
+    Recipe {
+        count,
+        point,
+        kind,
+        op,
+        takes,
+        gives,
+        then,
+        otherwise,
+    }
+}
+
+// The configuration in the bytes of a run.
+fn get_configuration(bytes: &[u8]) -> Configuration
+    requires { ⌜ 15 ≤ length (now bytes) ⌝ }
+    ensures { λ r. ⌜ r ≡ runFrom (now (bytes .entry)) .configuration ⌝ }
+{
+    let state = [bytes[1], bytes[2], bytes[3], bytes[4], bytes[5], bytes[6]];
+    let place = [
+        bytes[7],
+        bytes[8],
+        bytes[9],
+        bytes[10],
+        bytes[11],
+        bytes[12],
+        bytes[13],
+        bytes[14],
+    ];
+    Configuration { state, place }
+}
+
+// The run that bytes hold, one out of range if they are too few.
+pub fn get_run(bytes: &[u8]) -> Run
+    ensures { λ r. ⌜ r ≡ runFrom (now (bytes .entry)) ⌝ }
+{
+    if bytes.len() < 15 {
+        let state = [0u8; 6];
+        let place = [0u8; 8];
+        let configuration = Configuration { state, place };
+        return Run {
+            point: 255,
+            configuration,
+        };
+    }
+    let configuration = get_configuration(bytes);
+    Run {
+        point: bytes[0],
+        configuration,
+    }
+}

@@ -1,0 +1,124 @@
+//! The calls on records and runs, the library's and the independent program's under the same
+//! signatures: on the same bytes, with the same results.
+
+use crate::c;
+use independent::{cell_of_bytes, check, recipe_of_bytes, run_bytes, run_of_bytes, Run, RUN_BYTES};
+
+/// The five calls as the C interface has them.
+pub trait Calls {
+    /// The first refusal of the rules 3 to 13, or 0.
+    fn check(cell: &[u8], recipe: &[u8]) -> u32;
+
+    /// 14 for a buffer that is too short, or 0 with the fresh run in it.
+    fn fresh(run: &mut [u8]) -> u32;
+
+    /// Refusal × 2^32 + entry.
+    fn next_move(cell: &[u8], recipe: &[u8], table: &[u32], run: &[u8]) -> u64;
+
+    /// The refusal, or 0 with the next run in the run's place.
+    fn report(cell: &[u8], recipe: &[u8], table: &[u32], run: &mut [u8], outcome: u8) -> u32;
+
+    /// Refusal × 256 + place.
+    fn place(cell: &[u8], recipe: &[u8], run: &[u8], part: u8) -> u32;
+}
+
+/// The library, called through its C interface.
+pub struct Library;
+
+// SAFETY, for every call: the pointers and lengths are those of slices that outlive the call, and
+// the one lent for writing overlaps no other.
+impl Calls for Library {
+    fn check(cell: &[u8], recipe: &[u8]) -> u32 {
+        unsafe { c::cellplan_check(cell.as_ptr(), cell.len(), recipe.as_ptr(), recipe.len()) }
+    }
+
+    fn fresh(run: &mut [u8]) -> u32 {
+        unsafe { c::cellplan_fresh(run.as_mut_ptr(), run.len()) }
+    }
+
+    fn next_move(cell: &[u8], recipe: &[u8], table: &[u32], run: &[u8]) -> u64 {
+        unsafe {
+            c::cellplan_next_move(
+                cell.as_ptr(),
+                cell.len(),
+                recipe.as_ptr(),
+                recipe.len(),
+                table.as_ptr(),
+                table.len(),
+                run.as_ptr(),
+                run.len(),
+            )
+        }
+    }
+
+    fn report(cell: &[u8], recipe: &[u8], table: &[u32], run: &mut [u8], outcome: u8) -> u32 {
+        unsafe {
+            c::cellplan_report(
+                cell.as_ptr(),
+                cell.len(),
+                recipe.as_ptr(),
+                recipe.len(),
+                table.as_ptr(),
+                table.len(),
+                run.as_mut_ptr(),
+                run.len(),
+                outcome,
+            )
+        }
+    }
+
+    fn place(cell: &[u8], recipe: &[u8], run: &[u8], part: u8) -> u32 {
+        unsafe {
+            c::cellplan_place(
+                cell.as_ptr(),
+                cell.len(),
+                recipe.as_ptr(),
+                recipe.len(),
+                run.as_ptr(),
+                run.len(),
+                part,
+            )
+        }
+    }
+}
+
+/// The independent program, which reads the records and the run out of the bytes at every call.
+pub struct Independent;
+
+impl Calls for Independent {
+    fn check(cell: &[u8], recipe: &[u8]) -> u32 {
+        check(&cell_of_bytes(cell), &recipe_of_bytes(recipe)).into()
+    }
+
+    fn fresh(run: &mut [u8]) -> u32 {
+        match run.get_mut(..RUN_BYTES) {
+            Some(run) => {
+                run.copy_from_slice(&run_bytes(&Run::fresh()));
+                0
+            }
+            None => 14,
+        }
+    }
+
+    fn next_move(cell: &[u8], recipe: &[u8], table: &[u32], run: &[u8]) -> u64 {
+        let (cell, recipe) = (cell_of_bytes(cell), recipe_of_bytes(recipe));
+        let answer = run_of_bytes(run).next_move(&cell, &recipe, table);
+        (u64::from(answer.refusal) << 32) + u64::from(answer.entry)
+    }
+
+    fn report(cell: &[u8], recipe: &[u8], table: &[u32], run: &mut [u8], outcome: u8) -> u32 {
+        let (cell, recipe) = (cell_of_bytes(cell), recipe_of_bytes(recipe));
+        let answer = run_of_bytes(run).report(&cell, &recipe, table, outcome);
+        // A run that is too short is refused, and a refused report gives its own run.
+        if let Some(run) = run.get_mut(..RUN_BYTES) {
+            run.copy_from_slice(&run_bytes(&answer.run));
+        }
+        answer.refusal.into()
+    }
+
+    fn place(cell: &[u8], recipe: &[u8], run: &[u8], part: u8) -> u32 {
+        let (cell, recipe) = (cell_of_bytes(cell), recipe_of_bytes(recipe));
+        let answer = run_of_bytes(run).place(&cell, &recipe, part);
+        u32::from(answer.refusal) * 256 + u32::from(answer.place)
+    }
+}

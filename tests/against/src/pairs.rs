@@ -1,0 +1,402 @@
+//! Cells and recipes that fit each other, so that moves of every kind are open in them; and runs and
+//! entries to try on them.
+
+use crate::generate::{self, Rows, DO, END, IN, INTERNAL, OPERATION, OUT, TEST};
+use crate::random::Random;
+use crate::{CellFile, RecipeFile};
+use independent::{
+    entry_of, is_open, kind_of, letters_of, Cell, Configuration, Recipe, Run, Sizes,
+};
+use independent::{CARRY, INTERNAL as INTERNAL_MOVE, STAY, TRANSFER};
+
+/// The value lines of a cell and of a recipe.
+pub struct Pair {
+    pub cell: Rows,
+    pub recipe: Rows,
+}
+
+impl Pair {
+    pub fn cell_bytes(&self) -> Vec<u8> {
+        generate::record::<CellFile>(&self.cell)
+    }
+
+    pub fn recipe_bytes(&self) -> Vec<u8> {
+        generate::record::<RecipeFile>(&self.recipe)
+    }
+}
+
+/// How great a pair may become.
+struct Shape {
+    states: Vec<u32>,
+    parts: u32,
+    points: u32,
+}
+
+impl Shape {
+    /// A shape of at most this many positions.
+    fn new(most_positions: u64, random: &mut Random) -> Shape {
+        let resources = random.choose(&[1, 2, 2, 3, 3, 4, 4, 4, 5, 6]);
+        let most_states = random.choose(&[2, 2, 3, 4, 8]);
+        let state_count = |random: &mut Random| 1 + random.number(most_states);
+        let mut shape = Shape {
+            states: (0..resources).map(|_| state_count(random)).collect(),
+            parts: random.choose(&[1, 2, 2, 3, 3, 4, 5, 8]),
+            points: 1 + random.number(16),
+        };
+        while shape.positions() > most_positions {
+            shape.shrink(random);
+        }
+        shape
+    }
+
+    fn positions(&self) -> u64 {
+        let joint_states: u64 = self.states.iter().map(|&count| u64::from(count)).product();
+        let placings = (self.states.len() as u64 + 1).pow(self.parts);
+        u64::from(self.points) * joint_states * placings
+    }
+
+    fn shrink(&mut self, random: &mut Random) {
+        let k = random.below(self.states.len());
+        match random.below(8) {
+            // Parallel lines want stations, so these go last.
+            0 if self.states.len() > 1 => _ = self.states.pop(),
+            1 | 2 => self.states[k] = (self.states[k] - 1).max(1),
+            3 | 4 => self.parts = (self.parts - 1).max(1),
+            _ => self.points = (self.points - 1).max(1),
+        }
+    }
+}
+
+/// A cell and a recipe of at most this many positions that are accepted. Both use the same few
+/// operations and the cell few ports, so that much of it fits together.
+pub fn good_pair(most_positions: u64, random: &mut Random) -> Pair {
+    let shape = Shape::new(most_positions, random);
+    let operations: Vec<u32> = (0..1 + random.below(3))
+        .map(|_| random.number(64))
+        .collect();
+    Pair {
+        cell: cell_rows(&shape, &operations, random),
+        recipe: recipe_rows(&shape, &operations, random),
+    }
+}
+
+/// A cell of 64 lines and a recipe of 64 lines, four at each of 16 points, that are accepted. Each of
+/// four stations goes through three states in each of its ways. In state 0 of all stations, the cell
+/// lines 36 to 39 carry every point from where part n is at station n.
+pub fn full_pair() -> Pair {
+    let cell = |n: u32| {
+        let from = n / 4 % 3;
+        vec![n % 4, from, n / 4 % 4, n / 16, (from + 1) % 3]
+    };
+    let recipe = |n: u32| {
+        let part = 1 << (n % 4);
+        vec![n / 4, DO, 2, part, part, (n / 4 + 1) % 16, 0]
+    };
+    Pair {
+        cell: (0..64).map(cell).collect(),
+        recipe: (0..64).map(recipe).collect(),
+    }
+}
+
+fn cell_rows(shape: &Shape, operations: &[u32], random: &mut Random) -> Rows {
+    let resources = shape.states.len();
+    let lines = match random.below(8) {
+        0 => 64,
+        _ => resources * (1 + random.below(5)),
+    };
+    let mut rows: Rows = Vec::with_capacity(lines);
+    // An operation for each resource, so that none is without a line.
+    for k in 0..resources {
+        rows.push(cell_row(
+            shape,
+            k,
+            OPERATION,
+            random.choose(operations),
+            random,
+        ));
+    }
+    while rows.len() < lines {
+        let k = random.below(resources);
+        let free = lines - rows.len();
+        match random.below(6) {
+            0..=2 => rows.push(cell_row(
+                shape,
+                k,
+                OPERATION,
+                random.choose(operations),
+                random,
+            )),
+            3 => rows.push(cell_row(shape, k, INTERNAL, random.number(64), random)),
+            _ if resources > 1 && free > 3 => push_transfer(&mut rows, shape, random),
+            _ => {}
+        }
+    }
+    random.shuffle(&mut rows);
+    rows
+}
+
+fn cell_row(shape: &Shape, k: usize, act: u32, arg: u32, random: &mut Random) -> Vec<u32> {
+    let states = shape.states[k];
+    vec![
+        k as u32,
+        random.number(states),
+        act,
+        arg,
+        random.number(states),
+    ]
+}
+
+/// An out and an in of two stations; at times each has the other act too, from the same state, so that
+/// an in and an out of one station stand side by side.
+fn push_transfer(rows: &mut Rows, shape: &Shape, random: &mut Random) {
+    let resources = shape.states.len();
+    let giver = random.below(resources);
+    let taker = (giver + 1 + random.below(resources - 1)) % resources;
+    let rare = random.number(64);
+    let port = random.choose(&[0, 1, 63, rare]);
+    let both_ways = random.below(4) == 0;
+    for (station, act, other) in [(giver, OUT, IN), (taker, IN, OUT)] {
+        let row = cell_row(shape, station, act, port, random);
+        if both_ways {
+            let mut back = cell_row(shape, station, other, port, random);
+            back[1] = row[1];
+            rows.push(back);
+        }
+        rows.push(row);
+    }
+}
+
+fn recipe_rows(shape: &Shape, operations: &[u32], random: &mut Random) -> Rows {
+    let mut rows = Vec::new();
+    for point in 0..shape.points {
+        let then = random.number(shape.points);
+        match random.below(6) {
+            0 => rows.push(vec![point, END, 0, 0, 0, 0, 0]),
+            1 | 2 => {
+                let operation = random.choose(operations);
+                let takes = 1 + random.number((1 << shape.parts) - 1);
+                let otherwise = random.number(shape.points);
+                rows.push(vec![point, TEST, operation, takes, 0, then, otherwise]);
+            }
+            _ => push_do(&mut rows, shape, point, then, operations, random),
+        }
+    }
+    rows
+}
+
+/// A do of up to as many lines as there are stations. A part may be both taken and given.
+fn push_do(
+    rows: &mut Rows,
+    shape: &Shape,
+    point: u32,
+    then: u32,
+    operations: &[u32],
+    random: &mut Random,
+) {
+    let most = shape.states.len().min(4).min(2 * shape.parts as usize);
+    let lines = 1 + random.below(most);
+    let mut sums = vec![[0, 0]; lines];
+    let mut slots: Vec<(u32, usize)> = (0..shape.parts)
+        .flat_map(|part| [(part, 0), (part, 1)])
+        .collect();
+    random.shuffle(&mut slots);
+    for (k, (part, side)) in slots.into_iter().enumerate() {
+        // One goes to each line, so that none takes and gives nothing.
+        let line = if k < lines {
+            k
+        } else {
+            random.below(2 * lines)
+        };
+        if let Some(sums) = sums.get_mut(line) {
+            sums[side] |= 1 << part;
+        }
+    }
+    for [takes, gives] in sums {
+        let operation = random.choose(operations);
+        rows.push(vec![point, DO, operation, takes, gives, then, 0]);
+    }
+}
+
+/// Any run in range.
+pub fn any_run(sizes: &Sizes, random: &mut Random) -> Run {
+    let mut configuration = Configuration::START;
+    for (state, count) in configuration.states.iter_mut().zip(sizes.states) {
+        if count > 0 {
+            *state = random.below(count as usize) as u8;
+        }
+    }
+    for place in &mut configuration.places[..sizes.parts] {
+        *place = random.below(sizes.resources + 1) as u8;
+    }
+    Run {
+        point: random.below(sizes.points as usize) as u8,
+        configuration,
+    }
+}
+
+/// One of those that `fits`, if any does.
+fn some(count: u8, random: &mut Random, fits: impl Fn(usize) -> bool) -> Option<usize> {
+    let fitting: Vec<usize> = (0..usize::from(count)).filter(|&n| fits(n)).collect();
+    (!fitting.is_empty()).then(|| random.choose(&fitting))
+}
+
+/// A run with an entry of this kind that is open there, or nearly so: at times one station is to
+/// serve two lines, or to hand over to itself. None if the pair has no lines for it.
+pub fn run_with_move(
+    cell: &Cell,
+    recipe: &Recipe,
+    sizes: &Sizes,
+    kind: u32,
+    random: &mut Random,
+) -> Option<(Run, u32)> {
+    let mut run = any_run(sizes, random);
+    let at_end = kind == STAY;
+    let line = some(recipe.count, random, |n| {
+        (u32::from(recipe.kind[n]) == END) == at_end
+    })?;
+    run.point = recipe.point[line];
+    let mut letters = [0; 4];
+    let used = match kind {
+        INTERNAL_MOVE => {
+            letters[0] = some(cell.count, random, |n| u32::from(cell.act[n]) == INTERNAL)?;
+            1
+        }
+        TRANSFER => {
+            letters = transfer(cell, sizes, &mut run, random)?;
+            2
+        }
+        CARRY => {
+            letters = carry(cell, recipe, &mut run, random)?;
+            lines_at(recipe, run.point).len()
+        }
+        _ => 0,
+    };
+    for &letter in &letters[..used] {
+        run.configuration.states[usize::from(cell.resource[letter])] = cell.from[letter];
+    }
+    Some((run, entry_of(kind, letters)))
+}
+
+/// An out and an in on its port, with about half of the parts at the out's station.
+fn transfer(cell: &Cell, sizes: &Sizes, run: &mut Run, random: &mut Random) -> Option<[usize; 4]> {
+    let a = some(cell.count, random, |n| u32::from(cell.act[n]) == OUT)?;
+    let same_station = random.below(16) == 0;
+    let b = some(cell.count, random, |n| {
+        let same = cell.resource[n] == cell.resource[a];
+        u32::from(cell.act[n]) == IN && cell.arg[n] == cell.arg[a] && same == same_station
+    })?;
+    for place in &mut run.configuration.places[..sizes.parts] {
+        if random.coin() {
+            *place = cell.resource[a] + 1;
+        }
+    }
+    Some([a, b, 0, 0])
+}
+
+/// The recipe lines of a point.
+pub fn lines_at(recipe: &Recipe, point: u8) -> Vec<usize> {
+    (0..usize::from(recipe.count))
+        .filter(|&n| recipe.point[n] == point)
+        .collect()
+}
+
+/// Cell lines for the lines of the run's point, with the parts where these want them.
+fn carry(cell: &Cell, recipe: &Recipe, run: &mut Run, random: &mut Random) -> Option<[usize; 4]> {
+    let mut letters = [0; 4];
+    let lines = lines_at(recipe, run.point);
+    let may_share = random.below(8) == 0;
+    for (i, &n) in lines.iter().enumerate() {
+        let earlier = &letters[..i];
+        let line = some(cell.count, random, |line| {
+            let shares = |&other: &usize| cell.resource[other] == cell.resource[line];
+            u32::from(cell.act[line]) == OPERATION
+                && cell.arg[line] == recipe.op[n]
+                && (may_share || !earlier.iter().any(shares))
+        })?;
+        letters[i] = line;
+    }
+    let places = &mut run.configuration.places;
+    let mut put = |sum: u8, place: u8| {
+        let parts = (0..places.len()).filter(|part| sum >> part & 1 == 1);
+        parts.for_each(|part| places[part] = place);
+    };
+    for &n in &lines {
+        put(recipe.gives[n], 0);
+    }
+    for (&n, &line) in lines.iter().zip(&letters) {
+        put(recipe.takes[n], cell.resource[line] + 1);
+    }
+    Some(letters)
+}
+
+/// Every entry that is open at a run in range.
+pub fn open_entries(cell: &Cell, recipe: &Recipe, run: &Run) -> Vec<u32> {
+    let with_act = |act| {
+        let lines = 0..usize::from(cell.count);
+        lines.filter(move |&n| u32::from(cell.act[n]) == act)
+    };
+    let mut entries = vec![entry_of(STAY, [0; 4])];
+    entries.extend(with_act(INTERNAL).map(|a| entry_of(INTERNAL_MOVE, [a, 0, 0, 0])));
+    for a in with_act(OUT) {
+        entries.extend(with_act(IN).map(|b| entry_of(TRANSFER, [a, b, 0, 0])));
+    }
+    let mut carries = vec![[0; 4]];
+    for (i, n) in lines_at(recipe, run.point).into_iter().enumerate() {
+        let shorter = std::mem::take(&mut carries);
+        let operation = |&line: &usize| cell.arg[line] == recipe.op[n];
+        for line in with_act(OPERATION).filter(operation) {
+            carries.extend(shorter.iter().map(|letters| {
+                let mut letters = *letters;
+                letters[i] = line;
+                letters
+            }));
+        }
+    }
+    entries.extend(carries.into_iter().map(|letters| entry_of(CARRY, letters)));
+    entries.retain(|&entry| is_open(cell, recipe, run.point, &run.configuration, entry));
+    entries
+}
+
+/// An entry like this one that mostly isn't open where this one is.
+pub fn other_entry(entry: u32, cell: &Cell, random: &mut Random) -> u32 {
+    let mut letters = letters_of(entry);
+    let kind = kind_of(entry);
+    let count = usize::from(cell.count);
+    let n = random.below(4);
+    match random.below(9) {
+        0 => 0,
+        1 => random.bits() as u32,
+        2 => entry ^ 1 << random.below(32),
+        // Kinds past 4 that a narrow look would take for this one.
+        3 => entry_of(kind | 8 << random.below(5), letters),
+        4 => entry_of(random.number(7), letters),
+        5 => {
+            letters.swap(n, random.below(4));
+            entry_of(kind, letters)
+        }
+        6 => {
+            letters[n] = random.below(64);
+            entry_of(kind, letters)
+        }
+        7 => {
+            letters[n] = random.below(count);
+            entry_of(kind, letters)
+        }
+        _ => {
+            let plausible = letters.map(|_| random.below(count));
+            entry_of(1 + random.number(4), plausible)
+        }
+    }
+}
+
+/// Puts one station into another of its states, or one part to another place.
+pub fn other_configuration(run: &mut Run, sizes: &Sizes, random: &mut Random) {
+    let other = any_run(sizes, random).configuration;
+    if random.coin() || sizes.parts == 0 {
+        let k = random.below(sizes.resources);
+        run.configuration.states[k] = other.states[k];
+    } else {
+        let n = random.below(sizes.parts);
+        run.configuration.places[n] = other.places[n];
+    }
+}

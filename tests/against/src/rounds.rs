@@ -1,0 +1,176 @@
+//! Rounds of calls: everything that the calls are handed, and the library's answers beside the
+//! independent program's.
+
+use crate::calls::{Calls, Independent, Library};
+use crate::random::Random;
+use independent::{
+    cell_of_bytes, check, entry_of, recipe_of_bytes, run_of_bytes, Cell, Recipe, Sizes,
+    MOST_POSITIONS,
+};
+use std::fmt::{Display, Formatter, Result};
+
+/// What the calls of one round are handed, beside the table.
+#[derive(Clone, PartialEq, Eq)]
+pub struct Round {
+    pub cell: Vec<u8>,
+    pub recipe: Vec<u8>,
+    pub run: Vec<u8>,
+    /// How many entries of the table are handed in.
+    pub entries: usize,
+    pub outcome: u8,
+    pub part: u8,
+}
+
+impl Display for Round {
+    fn fmt(&self, f: &mut Formatter) -> Result {
+        for (name, record, columns) in [("cell", &self.cell, 5), ("recipe", &self.recipe, 7)] {
+            let (count, lines) = record.split_first().unwrap_or((&0, &[]));
+            let lines: Vec<&[u8]> = lines.chunks(columns).take((*count).into()).collect();
+            let length = record.len();
+            writeln!(f, "{name} of {length} bytes, {count} lines: {lines:?}")?;
+        }
+        writeln!(f, "run {:?}", self.run)?;
+        if let Some(position) = self.position() {
+            writeln!(f, "position {position}")?;
+        }
+        let Round {
+            entries,
+            outcome,
+            part,
+            ..
+        } = self;
+        write!(f, "{entries} entries, outcome {outcome}, part {part}")
+    }
+}
+
+impl Round {
+    /// The run's position, if the round comes past rule 16.
+    fn position(&self) -> Option<u64> {
+        let (_, _, sizes) = accepted(&self.cell, &self.recipe)?;
+        let run = run_of_bytes(&self.run);
+        let held = sizes.holds(run.point, &run.configuration);
+        held.then(|| sizes.position(run.point, &run.configuration))
+    }
+}
+
+/// The records with their sizes, if they pass the rules before 14.
+pub fn accepted(cell: &[u8], recipe: &[u8]) -> Option<(Cell, Recipe, Sizes)> {
+    let (cell, recipe) = (cell_of_bytes(cell), recipe_of_bytes(recipe));
+    (check(&cell, &recipe) == 0).then(|| {
+        let sizes = Sizes::of(&cell, &recipe);
+        (cell, recipe, sizes)
+    })
+}
+
+/// A table with a second copy, which shows whether a call has changed it.
+pub struct Table {
+    entries: Vec<u32>,
+    kept: Vec<u32>,
+}
+
+impl Table {
+    /// Entries past the greatest M, so that a table can be longer than it has to be.
+    pub const SPARE: usize = 8;
+
+    pub fn new(entries: Vec<u32>) -> Table {
+        Table {
+            kept: entries.clone(),
+            entries,
+        }
+    }
+
+    /// A table for any accepted pair, full of entries without a plan.
+    pub fn seeded(random: &mut Random) -> Table {
+        let entry = |random: &mut Random| match random.below(4) {
+            0 => random.bits() as u32,
+            _ => entry_of(random.number(5), [(); 4].map(|()| random.below(8))),
+        };
+        let length = MOST_POSITIONS as usize + Table::SPARE;
+        Table::new((0..length).map(|_| entry(random)).collect())
+    }
+
+    pub fn entries(&self) -> &[u32] {
+        &self.entries
+    }
+
+    pub fn set(&mut self, position: u64, entry: u32) {
+        self.entries[position as usize] = entry;
+        self.kept[position as usize] = entry;
+    }
+
+    /// Wants the first `length` entries as they were set.
+    pub fn assert_unchanged(&self, length: usize) {
+        let same = self.entries[..length] == self.kept[..length];
+        assert!(same, "a call has changed the table");
+    }
+}
+
+/// The library's results in one round, all of which were the independent program's too.
+pub struct Answers {
+    pub check: u32,
+    pub next_move: u64,
+    pub report: u32,
+    pub place: u32,
+}
+
+/// Compares every call's result in one round, and the bytes afterwards.
+pub fn compare(round: &Round, table: &Table) -> Answers {
+    let handed = round.clone();
+    let (cell, recipe, run) = (&handed.cell, &handed.recipe, &handed.run);
+    let entries = &table.entries[..round.entries];
+    let answers = Answers {
+        check: same(
+            "check",
+            Library::check(cell, recipe),
+            Independent::check(cell, recipe),
+            round,
+        ),
+        next_move: same(
+            "next-move",
+            Library::next_move(cell, recipe, entries, run),
+            Independent::next_move(cell, recipe, entries, run),
+            round,
+        ),
+        report: compare_report(&handed, entries),
+        place: same(
+            "place",
+            Library::place(cell, recipe, run, round.part),
+            Independent::place(cell, recipe, run, round.part),
+            round,
+        ),
+    };
+    assert!(
+        handed == *round,
+        "a call has changed what it may only read\n{round}"
+    );
+    answers
+}
+
+/// Compares a report's result and the run that it leaves, the bytes past the run too.
+fn compare_report(round: &Round, entries: &[u32]) -> u32 {
+    let (cell, recipe) = (&round.cell, &round.recipe);
+    let mut left = round.run.clone();
+    let mut expected = round.run.clone();
+    let refusal = same(
+        "report",
+        Library::report(cell, recipe, entries, &mut left, round.outcome),
+        Independent::report(cell, recipe, entries, &mut expected, round.outcome),
+        round,
+    );
+    assert!(
+        left == expected,
+        "report: the library leaves the run {left:?}, the independent program {expected:?}\n{round}"
+    );
+    refusal
+}
+
+/// The result that both gave.
+fn same<T: Copy + PartialEq + Into<u64>>(name: &str, library: T, other: T, round: &Round) -> T {
+    assert!(
+        library == other,
+        "{name}: library {:#x}, independent {:#x}\n{round}",
+        library.into(),
+        other.into()
+    );
+    library
+}

@@ -1,0 +1,331 @@
+//! The library's calls on records and runs, through the C interface: worked examples, bounds, and
+//! everything near to the bench example against the independent program.
+
+use against::calls::{Calls, Independent, Library};
+use against::generate::{self, Rows};
+use against::pairs::full_pair;
+use against::rounds::{accepted, compare, Round, Table};
+use against::{CellFile, Format, RecipeFile};
+use independent::{entry_of, run_bytes, run_of_bytes, Run, CARRY, MOST_POSITIONS, RUN_BYTES};
+
+const BENCH_CELL: &[u8] = include_bytes!("../../../examples/bench/cell.csv");
+const BENCH_RECIPE: &[u8] = include_bytes!("../../../examples/bench/recipe.csv");
+
+/// The bench example's records, with the table as far as a run from the start can come.
+fn bench() -> (Vec<u8>, Vec<u8>, Vec<u32>) {
+    let mut cell = vec![0; CellFile::RECORD_BYTES];
+    let mut recipe = vec![0; RecipeFile::RECORD_BYTES];
+    assert_eq!(CellFile::library(BENCH_CELL, &mut cell), 0);
+    assert_eq!(RecipeFile::library(BENCH_RECIPE, &mut recipe), 0);
+    let mut table = vec![0; 90];
+    for (position, entry) in [
+        (0, 50_331_648),
+        (22, 33_554_561),
+        (26, 50_331_651),
+        (50, 50_331_652),
+        (68, 50_331_652),
+        (72, 67_108_864),
+    ] {
+        table[position] = entry;
+    }
+    (cell, recipe, table)
+}
+
+/// The bytes of the run at a position of the bench example.
+fn bench_run(position: u64) -> Vec<u8> {
+    let (cell, recipe, _) = bench();
+    let (_, _, sizes) = accepted(&cell, &recipe).expect("the bench example is accepted");
+    let (point, configuration) = sizes.at(position);
+    run_bytes(&Run {
+        point,
+        configuration,
+    })
+    .to_vec()
+}
+
+#[test]
+fn the_bench_example_from_a_fresh_run() {
+    let (cell, recipe, table) = bench();
+    assert_eq!(Library::check(&cell, &recipe), 0);
+    let mut run = vec![0xff; RUN_BYTES];
+    assert_eq!(Library::fresh(&mut run), 0);
+    assert_eq!(run, [0; RUN_BYTES]);
+    for (position, entry, outcome, next, place) in [
+        (0, 50_331_648, 0, 22, 0),
+        (22, 33_554_561, 0, 26, 1),
+        (26, 50_331_651, 1, 50, 2),
+        (50, 50_331_652, 0, 72, 2),
+    ] {
+        assert_eq!(run, bench_run(position));
+        assert_eq!(Library::place(&cell, &recipe, &run, 0), place);
+        assert_eq!(Library::place(&cell, &recipe, &run, 1), 255);
+        let answer = Library::next_move(&cell, &recipe, &table, &run);
+        assert_eq!(answer, entry);
+        let refusal = Library::report(&cell, &recipe, &table, &mut run, outcome);
+        assert_eq!(refusal, 0);
+        assert_eq!(run, bench_run(next));
+    }
+    let end = Library::next_move(&cell, &recipe, &table, &run);
+    assert_eq!(end, 67_108_864);
+    assert_eq!(Library::report(&cell, &recipe, &table, &mut run, 1), 19);
+    assert_eq!(run, bench_run(72));
+}
+
+#[test]
+fn a_failed_test_in_the_bench_example_leads_back_to_the_start() {
+    let (cell, recipe, table) = bench();
+    let mut run = bench_run(26);
+    assert_eq!(Library::report(&cell, &recipe, &table, &mut run, 0), 0);
+    assert_eq!(run, bench_run(68));
+    let answer = Library::next_move(&cell, &recipe, &table, &run);
+    assert_eq!(answer, 50_331_652);
+    assert_eq!(Library::report(&cell, &recipe, &table, &mut run, 1), 0);
+    assert_eq!(run, bench_run(0));
+}
+
+/// The library's next-move call and report, for a report that must be refused.
+fn refused(cell: &[u8], recipe: &[u8], table: &[u32], run: &[u8], outcome: u8) -> (u64, u32) {
+    let next_move = Library::next_move(cell, recipe, table, run);
+    let mut left = run.to_vec();
+    let report = Library::report(cell, recipe, table, &mut left, outcome);
+    assert_eq!(left, run, "a refused report gives its own run");
+    (next_move, report)
+}
+
+/// The results of a next-move call and a report that one rule refuses.
+fn both(number: u32) -> (u64, u32) {
+    (u64::from(number) << 32, number)
+}
+
+#[test]
+fn rules_from_14_on_are_tried_in_their_order() {
+    let (cell, recipe, table) = bench();
+    let end = bench_run(72);
+    let all = |table: &[u32], run: &[u8], outcome| refused(&cell, &recipe, table, run, outcome);
+    // Each change breaks a rule before all those that were broken so far.
+    assert_eq!(all(&table, &end, 1), (67_108_864, 19));
+    let blank = [0; 90];
+    assert_eq!(all(&blank, &end, 1), both(18));
+    assert_eq!(all(&blank, &end, 2), (18 << 32, 17));
+    let mut gone = end.clone();
+    gone[0] = 5;
+    assert_eq!(all(&blank, &gone, 2), both(16));
+    assert_eq!(all(&blank, &gone[..14], 2), both(16));
+    assert_eq!(all(&blank[..89], &gone, 2), both(14));
+    assert_eq!(Library::place(&cell, &recipe, &gone, 0), 16 * 256 + 255);
+    assert_eq!(Library::place(&cell, &recipe, &gone, 9), 16 * 256 + 255);
+}
+
+#[test]
+fn the_cell_is_judged_before_the_recipe_and_both_before_the_rest() {
+    let (mut cell, mut recipe, table) = bench();
+    let mut gone = bench_run(72);
+    gone[0] = 5;
+    let answers = |cell: &[u8], recipe: &[u8], number: u32| {
+        let short = &table[..89];
+        assert_eq!(refused(cell, recipe, short, &gone, 2), both(number));
+        let place = Library::place(cell, recipe, &gone, 0);
+        assert_eq!(place, number * 256 + 255);
+        assert_eq!(Library::check(cell, recipe), number);
+    };
+    // Recipe line 0 with a then that isn't there, without parts, of no kind; then no lines.
+    for (at, number, refusal) in [(6, 5, 12), (5, 0, 10), (2, 3, 4), (0, 0, 3)] {
+        recipe[at] = number;
+        answers(&cell, &recipe, refusal);
+    }
+    // Cell line 2 with another port, of no act; then too many lines.
+    for (at, number, refusal) in [(14, 6, 6), (13, 4, 4), (0, 65, 3)] {
+        cell[at] = number;
+        answers(&cell, &recipe, refusal);
+    }
+}
+
+/// Compares the calls on the bench example with this run, at each outcome.
+fn compare_bench(cell: &[u8], recipe: &[u8], run: &[u8], table: &Table) {
+    for (outcome, part) in [(0, 0), (1, 1), (2, 255)] {
+        let round = Round {
+            cell: cell.to_vec(),
+            recipe: recipe.to_vec(),
+            run: run.to_vec(),
+            entries: table.entries().len(),
+            outcome,
+            part,
+        };
+        compare(&round, table);
+    }
+}
+
+#[test]
+fn one_byte_from_the_bench_example() {
+    let (cell, recipe, table) = bench();
+    let table = Table::new(table);
+    // The lines and one more, which counts for nothing.
+    for (record, lines) in [(0, 1 + 6 * 5), (1, 1 + 6 * 7), (2, RUN_BYTES)] {
+        for at in 0..lines {
+            for byte in 0..=255 {
+                let mut handed = [cell.clone(), recipe.clone(), bench_run(26)];
+                handed[record][at] = byte;
+                let [cell, recipe, run] = handed;
+                compare_bench(&cell, &recipe, &run, &table);
+            }
+        }
+    }
+    table.assert_unchanged(90);
+}
+
+#[test]
+fn every_entry_near_to_one_of_the_bench_example() {
+    let (cell, recipe, entries) = bench();
+    let mut table = Table::new(entries.clone());
+    for position in [0, 1, 22, 26, 50, 68, 72, 89] {
+        let run = bench_run(position);
+        let near = entries[position as usize];
+        let bits = (0..32).map(|bit| near ^ 1 << bit);
+        let kinds = (0..=255).map(|kind| kind << 24 | near & 0xff_ffff);
+        let letters = (0..4096).map(|low| near & 0xffff_f000 | low);
+        for entry in bits.chain(kinds).chain(letters) {
+            table.set(position, entry);
+            compare_bench(&cell, &recipe, &run, &table);
+        }
+    }
+    table.assert_unchanged(90);
+}
+
+#[test]
+fn slices_of_every_length() {
+    let (cell, recipe, table) = bench();
+    let table = Table::new(table);
+    let run = bench_run(22);
+    let longer = |bytes: &[u8]| [bytes, &[0x5a; 20]].concat();
+    for length in 0..CellFile::RECORD_BYTES + 20 {
+        compare_bench(&longer(&cell)[..length], &recipe, &run, &table);
+        compare_bench(&longer(&cell)[..length], &recipe[..9], &run, &table);
+    }
+    for length in 0..RecipeFile::RECORD_BYTES + 20 {
+        compare_bench(&cell, &longer(&recipe)[..length], &run, &table);
+    }
+    for length in 0..RUN_BYTES + 20 {
+        compare_bench(&cell, &recipe, &longer(&run)[..length], &table);
+    }
+    for length in 0..=90 {
+        let shorter = Table::new(table.entries()[..length].to_vec());
+        compare_bench(&cell, &recipe, &run, &shorter);
+        compare_bench(&cell, &recipe, &run[..14], &shorter);
+    }
+}
+
+#[test]
+fn a_fresh_run_is_written_whole_or_not_at_all() {
+    for length in 0..40 {
+        let mut run = vec![0x5a; length];
+        let mut expected = run.clone();
+        let refusal = Library::fresh(&mut run);
+        assert_eq!(refusal, Independent::fresh(&mut expected));
+        assert_eq!(run, expected);
+        assert_eq!(refusal, if length < 15 { 14 } else { 0 });
+    }
+}
+
+#[test]
+fn four_parallel_lines_have_a_station_each() {
+    let pair = full_pair();
+    let (cell, recipe) = (pair.cell_bytes(), pair.recipe_bytes());
+    let (_, _, sizes) = accepted(&cell, &recipe).expect("the pair is accepted");
+    let run = [15, 0, 0, 0, 0, 0, 0, 1, 2, 3, 4, 0, 0, 0, 0];
+    let position = sizes.position(15, &run_of_bytes(&run).configuration);
+    let mut table = Table::new(vec![0; sizes.positions as usize]);
+    let round = Round {
+        cell,
+        recipe,
+        run: run.to_vec(),
+        entries: table.entries().len(),
+        outcome: 0,
+        part: 3,
+    };
+    // Any four of the lines 36 to 39, which are the same operation of the stations 0 to 3.
+    for n in 0..256 {
+        let letters = [0, 1, 2, 3].map(|place| 36 + n / 4usize.pow(place) % 4);
+        let entry = entry_of(CARRY, letters);
+        table.set(position, entry);
+        let answers = compare(&round, &table);
+        let open = letters == [36, 37, 38, 39];
+        let expected = if open { (entry.into(), 0) } else { both(18) };
+        assert_eq!((answers.next_move, answers.report), expected);
+    }
+}
+
+/// The records of a cell whose resources have these many states, and of a recipe of so many points,
+/// two at least, and parts. The last point is an end.
+fn records_of(states: &[u32], points: u32, parts: u32) -> (Vec<u8>, Vec<u8>) {
+    let stations = states.iter().zip(0..);
+    let cell: Rows = stations
+        .map(|(count, k)| vec![k, 0, 1, 1, count - 1])
+        .collect();
+    let mut recipe: Rows = (1..points)
+        .map(|next| vec![next - 1, 1, 1, 0, 1 << (parts - 1), next, 0])
+        .collect();
+    recipe.push(vec![points - 1, 0, 0, 0, 0, 0, 0]);
+    let cell = generate::record::<CellFile>(&cell);
+    (cell, generate::record::<RecipeFile>(&recipe))
+}
+
+#[test]
+fn the_greatest_table_is_read_to_its_end() {
+    let positions = MOST_POSITIONS as usize;
+    let mut table = Table::new(vec![0; positions + 1]);
+    table.set(MOST_POSITIONS - 1, 67_108_864);
+    let (cell, recipe) = records_of(&[4, 4, 4], 16, 5);
+    let mut round = Round {
+        cell,
+        recipe,
+        run: vec![15, 3, 3, 3, 0, 0, 0, 3, 3, 3, 3, 3, 0, 0, 0],
+        entries: positions,
+        outcome: 1,
+        part: 4,
+    };
+    for entries in [positions, positions + 1] {
+        round.entries = entries;
+        let answers = compare(&round, &table);
+        assert_eq!((answers.next_move, answers.report), (67_108_864, 19));
+        assert_eq!((answers.check, answers.place), (0, 3));
+    }
+    round.entries = positions - 1;
+    let answers = compare(&round, &table);
+    assert_eq!((answers.next_move, answers.report), both(14));
+
+    let (fifth_state, _) = records_of(&[4, 5, 4], 16, 5);
+    round.cell = fifth_state;
+    let answers = compare(&round, &table);
+    assert_eq!((answers.next_move, answers.report), both(13));
+    assert_eq!((answers.check, answers.place), (13, 13 * 256 + 255));
+    table.assert_unchanged(positions + 1);
+}
+
+/// Whether so many positions would pass for few if a number lost its upper bits.
+fn comes_round(positions: u64) -> bool {
+    positions > MOST_POSITIONS && positions % (1 << 32) <= MOST_POSITIONS
+}
+
+#[test]
+fn sizes_that_a_narrow_number_would_lose() {
+    let mut found = 0;
+    for n in 0..8u32.pow(6) {
+        let mut states = [0; 6];
+        (0..6).for_each(|k| states[k] = 1 + n / 8u32.pow(k as u32) % 8);
+        if !states.is_sorted() {
+            continue;
+        }
+        let joint_states: u64 = states.iter().map(|&count| u64::from(count)).product();
+        for parts in 6..=8 {
+            for points in 2..=16 {
+                if comes_round(u64::from(points) * joint_states * 7u64.pow(parts)) {
+                    let (cell, recipe) = records_of(&states, points, parts);
+                    assert_eq!(Library::check(&cell, &recipe), 13);
+                    found += 1;
+                }
+            }
+        }
+    }
+    println!("{found} sizes");
+    assert!(found > 0);
+}

@@ -1,0 +1,335 @@
+//! The library's calls on records and runs against the independent program: seeded rounds of calls on
+//! cells and recipes that fit each other, and on every kind of damage to them.
+
+use against::generate::{self, Generate};
+use against::pairs::{self, Pair};
+use against::random::Random;
+use against::rounds::{accepted, compare, Answers, Round, Table};
+use against::{CellFile, Format, RecipeFile};
+use independent::{
+    cell_of_bytes, kind_of, letters_of, recipe_of_bytes, run_bytes, run_of_bytes, Cell, Recipe,
+    Run, Sizes, CARRY, MOST_POSITIONS, RUN_BYTES, TRANSFER,
+};
+use std::ops::RangeInclusive;
+
+/// Pairs of a cell and a recipe, and rounds of calls on each.
+const PAIRS: usize = 4_000;
+const ROUNDS: usize = 80;
+
+/// How many calls are made at least, and how often everything that must be seen is seen at least.
+const LEAST_CALLS: usize = 1_000_000;
+const LEAST_SEEN: usize = 1_000;
+
+/// The recipe kind of a test.
+const TEST: u8 = 2;
+
+/// What was seen in a run.
+#[derive(Default)]
+struct Seen {
+    calls: usize,
+    /// For check, next-move, report and place, how often each refusal came.
+    refusals: [[usize; 20]; 4],
+    /// Accepted next-moves of each kind.
+    moves: [usize; 5],
+    /// Accepted reports of the kinds 1 to 3, and those of kind 4, all of which get 19.
+    reports: [usize; 5],
+    /// Carried dos of one to four lines.
+    parallel: [usize; 5],
+    /// Tests by their outcome.
+    tests: [usize; 2],
+    /// Transfers of no part, of one, and of several.
+    handed_over: [usize; 3],
+    /// Dos that give a part that the same step takes: on the same line, and on another.
+    exchanged: [usize; 2],
+}
+
+impl Seen {
+    /// Notes what a round's calls answered.
+    fn note(&mut self, round: &Round, answers: &Answers) {
+        let Answers {
+            check,
+            next_move,
+            report,
+            place,
+        } = *answers;
+        let refusals = [check, (next_move >> 32) as u32, report, place / 256];
+        for (times, refusal) in self.refusals.iter_mut().zip(refusals) {
+            self.calls += 1;
+            times[refusal as usize] += 1;
+        }
+        let entry = next_move as u32;
+        if entry != 0 {
+            self.moves[kind_of(entry) as usize] += 1;
+            if report == 0 || report == 19 {
+                self.note_report(round, entry);
+            }
+        }
+    }
+
+    /// Notes a report that was made, or refused at an end.
+    fn note_report(&mut self, round: &Round, entry: u32) {
+        let (cell, recipe) = (cell_of_bytes(&round.cell), recipe_of_bytes(&round.recipe));
+        let run = run_of_bytes(&round.run);
+        let kind = kind_of(entry);
+        self.reports[kind as usize] += 1;
+        if kind == TRANSFER {
+            let out = cell.resource[letters_of(entry)[0]] + 1;
+            let places = run.configuration.places.iter();
+            let parts = places.filter(|&&place| place == out).count();
+            self.handed_over[parts.min(2)] += 1;
+        }
+        if kind == CARRY {
+            self.note_carry(&recipe, run.point, round.outcome);
+        }
+    }
+
+    fn note_carry(&mut self, recipe: &Recipe, point: u8, outcome: u8) {
+        let lines = pairs::lines_at(recipe, point);
+        if recipe.kind[lines[0]] == TEST {
+            self.tests[usize::from(outcome)] += 1;
+            return;
+        }
+        self.parallel[lines.len()] += 1;
+        let same = lines
+            .iter()
+            .any(|&n| recipe.takes[n] & recipe.gives[n] != 0);
+        let other = lines.iter().any(|&n| {
+            let differs = |&&m: &&usize| m != n;
+            let mut others = lines.iter().filter(differs);
+            others.any(|&m| recipe.takes[n] & recipe.gives[m] != 0)
+        });
+        self.exchanged[0] += usize::from(same);
+        self.exchanged[1] += usize::from(other);
+    }
+
+    /// Prints what was seen and wants enough of everything.
+    fn judge(&self) {
+        println!("{} calls", self.calls);
+        assert!(self.calls >= LEAST_CALLS);
+        self.judge_refusals("check", 0, &[3..=13]);
+        self.judge_refusals("next-move", 1, &[3..=14, 16..=16, 18..=18]);
+        self.judge_refusals("report", 2, &[3..=14, 16..=19]);
+        self.judge_refusals("place", 3, &[3..=13, 16..=16]);
+        for (name, seen) in [
+            ("next-moves of kind 1 to 4", &self.moves[1..]),
+            ("reports of kind 1 to 4", &self.reports[1..]),
+            ("dos of 1 to 4 lines", &self.parallel[1..]),
+            ("tests of outcome 0 and 1", &self.tests),
+            ("transfers of no part, one, several", &self.handed_over),
+            (
+                "dos that give what they take, here and there",
+                &self.exchanged,
+            ),
+        ] {
+            println!("{name}: {seen:?}");
+            assert!(seen.iter().all(|&times| times >= LEAST_SEEN), "{name}");
+        }
+    }
+
+    /// A call must be accepted and refused by each of these rules often enough, and by no other.
+    fn judge_refusals(&self, name: &str, call: usize, rules: &[RangeInclusive<usize>]) {
+        let times = self.refusals[call];
+        println!("{name}: accepted and refused by each rule {times:?}");
+        for (number, times) in times.into_iter().enumerate() {
+            if number == 0 || rules.iter().any(|rules| rules.contains(&number)) {
+                assert!(times >= LEAST_SEEN, "{name}: {number} was seen too seldom");
+            } else {
+                assert_eq!(times, 0, "{name} cannot be refused by rule {number}");
+            }
+        }
+    }
+}
+
+/// The records of a round: mostly the pair's own, else with some damage.
+fn seeded_records(pair: &Pair, random: &mut Random) -> (Vec<u8>, Vec<u8>) {
+    let mut records = (pair.cell_bytes(), pair.recipe_bytes());
+    match random.below(16) {
+        0 | 1 => records.0 = broken::<CellFile>(&pair.cell, &[4, 5, 6], random),
+        2 | 3 => records.1 = broken::<RecipeFile>(&pair.recipe, &[4, 7, 8, 9, 10, 11, 12], random),
+        4 => {
+            // Both at once, of which the cell's comes first.
+            records.0 = broken::<CellFile>(&pair.cell, &[4, 5, 6], random);
+            records.1 = broken::<RecipeFile>(&pair.recipe, &[4, 7, 8, 9], random);
+        }
+        5 => damage_bytes::<CellFile>(&mut records.0, random),
+        6 => damage_bytes::<RecipeFile>(&mut records.1, random),
+        7 => {
+            damage_bytes::<CellFile>(&mut records.0, random);
+            damage_bytes::<RecipeFile>(&mut records.1, random);
+        }
+        8 => resize(&mut records.0, random),
+        9 => resize(&mut records.1, random),
+        _ => {}
+    }
+    records
+}
+
+/// A record whose numbers mostly break one of these rules.
+fn broken<F: Generate>(rows: &generate::Rows, rules: &[u8], random: &mut Random) -> Vec<u8> {
+    let mut rows = rows.clone();
+    F::break_rule(random.choose(rules), &mut rows, random);
+    generate::record::<F>(&rows)
+}
+
+/// Changes the count or some other byte, or all of them, or what stands past the count.
+fn damage_bytes<F: Format>(record: &mut [u8], random: &mut Random) {
+    let lines = 1 + usize::from(record[0]) * F::GREATEST.len();
+    match random.below(8) {
+        0 => record[0] = random.choose(&[0, 1, 63, 64, 65, 128, 255]),
+        1 => record[0] = record[0].wrapping_add(random.choose(&[1, 255])),
+        2 => record[0] = random.byte(),
+        3 => record[random.below(F::RECORD_BYTES)] = random.byte(),
+        4 => record.fill_with(|| random.byte()),
+        // Past the line count everything counts for nothing.
+        5 => record[lines..].fill_with(|| random.byte()),
+        _ => {
+            let telling = [0, 1, 2, 3, 4, 5, 6, 7, 8, 15, 16, 63, 64, 255];
+            record[random.below(lines)] = random.choose(&telling);
+        }
+    }
+}
+
+/// Makes a record too short, or longer than it has to be.
+fn resize(record: &mut Vec<u8>, random: &mut Random) {
+    let length = record.len();
+    match random.below(3) {
+        0 => record.truncate(random.below(length)),
+        1 => record.truncate(length - 1),
+        _ => record.resize(length + 1 + random.below(20), 0xa5),
+    }
+}
+
+/// A run for accepted records, with the entry to try there.
+fn seeded_run((cell, recipe, sizes): &(Cell, Recipe, Sizes), random: &mut Random) -> (Run, u32) {
+    // Not every try finds lines for its kind of move.
+    let tries = (0..4).find_map(|_| {
+        let kind = random.choose(&[1, 2, 2, 3, 3, 3, 3, 4]);
+        pairs::run_with_move(cell, recipe, sizes, kind, random)
+    });
+    let (mut run, mut entry) = tries.unwrap_or_else(|| (pairs::any_run(sizes, random), 0));
+    match random.below(12) {
+        0..=2 => entry = pairs::other_entry(entry, cell, random),
+        3 | 4 => pairs::other_configuration(&mut run, sizes, random),
+        5 => {
+            let kind = 1 + random.number(4);
+            let elsewhere = pairs::run_with_move(cell, recipe, sizes, kind, random);
+            entry = elsewhere.map_or(entry, |(_, other)| other);
+        }
+        6 => run = pairs::any_run(sizes, random),
+        _ => {}
+    }
+    (run, entry)
+}
+
+/// A run's bytes, at times with one that leaves its range, too few of them or some too many.
+fn seeded_run_bytes(run: &Run, sizes: &Sizes, random: &mut Random) -> Vec<u8> {
+    let mut bytes = run_bytes(run).to_vec();
+    let at = random.below(RUN_BYTES);
+    match random.below(24) {
+        0 => bytes[at] = random.byte(),
+        1 => bytes[at] = bytes[at].wrapping_add(random.choose(&[1, 255])),
+        2 => {
+            // Each number's count, which is the first that is out of range.
+            bytes[at] = match at {
+                0 => sizes.points as u8,
+                1..=6 => sizes.states[at - 1].max(1) as u8,
+                _ if at - 7 < sizes.parts => sizes.resources as u8 + 1,
+                _ => 1,
+            };
+        }
+        3 => bytes.fill_with(|| random.byte()),
+        4 => bytes.truncate(random.below(RUN_BYTES)),
+        5..=8 => bytes.extend((0..1 + random.below(20)).map(|_| random.byte())),
+        _ => {}
+    }
+    bytes
+}
+
+/// How many entries to hand in where `positions` are needed.
+fn seeded_length(positions: usize, random: &mut Random) -> usize {
+    match random.below(16) {
+        0 => positions - 1,
+        1 => random.below(positions),
+        2 | 3 => positions + 1,
+        4 | 5 => positions + random.below(Table::SPARE + 1),
+        _ => positions,
+    }
+}
+
+/// A run and a number of entries for these records. The entry to try is put at the run's position.
+fn seeded_run_and_table(
+    records: &(Cell, Recipe, Sizes),
+    table: &mut Table,
+    random: &mut Random,
+) -> (Vec<u8>, usize) {
+    let sizes = &records.2;
+    let (run, entry) = seeded_run(records, random);
+    let bytes = seeded_run_bytes(&run, sizes, random);
+    let run = run_of_bytes(&bytes);
+    if sizes.holds(run.point, &run.configuration) {
+        table.set(sizes.position(run.point, &run.configuration), entry);
+    }
+    (bytes, seeded_length(sizes.positions as usize, random))
+}
+
+/// A run and a number of entries for records that are refused before these count.
+fn any_run_and_table(random: &mut Random) -> (Vec<u8>, usize) {
+    let mut run = vec![0; random.choose(&[0, RUN_BYTES - 1, RUN_BYTES, RUN_BYTES, 40])];
+    if random.coin() {
+        run.fill_with(|| random.byte());
+    }
+    (run, random.choose(&[0, 1, 90, 8192]))
+}
+
+/// One round of calls.
+fn seeded_round(pair: &Pair, table: &mut Table, random: &mut Random) -> Round {
+    let (cell, recipe) = seeded_records(pair, random);
+    let (run, entries) = match accepted(&cell, &recipe) {
+        Some(records) => seeded_run_and_table(&records, table, random),
+        None => any_run_and_table(random),
+    };
+    let outcome = match random.below(8) {
+        0 => random.byte(),
+        _ => random.below(2) as u8,
+    };
+    let part = match random.below(4) {
+        0 => random.byte(),
+        _ => random.below(9) as u8,
+    };
+    Round {
+        cell,
+        recipe,
+        run,
+        entries,
+        outcome,
+        part,
+    }
+}
+
+#[test]
+fn seeded_calls() {
+    let mut random = Random::new(3);
+    let mut table = Table::seeded(&mut random);
+    let mut seen = Seen::default();
+    for n in 0..PAIRS {
+        // Most tables are small; some come near to the limit, and some pass it.
+        let most = match n % 16 {
+            0 => u64::MAX,
+            1 => 4 * MOST_POSITIONS,
+            2 => MOST_POSITIONS,
+            3..=5 => 65_536,
+            6..=8 => 1_024,
+            _ => 8_192,
+        };
+        let pair = pairs::good_pair(most, &mut random);
+        let mut greatest = 0;
+        for _ in 0..ROUNDS {
+            let round = seeded_round(&pair, &mut table, &mut random);
+            seen.note(&round, &compare(&round, &table));
+            greatest = greatest.max(round.entries);
+        }
+        table.assert_unchanged(greatest);
+    }
+    table.assert_unchanged(table.entries().len());
+    seen.judge();
+}

@@ -1,0 +1,142 @@
+//! Cells and recipes for the tests of several modules.
+
+use crate::cell::{read_cell, Cell, CELL_NAMES};
+use crate::entry::{entry_of, is_open, CARRY, INTERNAL, STAY, TRANSFER};
+use crate::recipe::{read_recipe, Recipe, RECIPE_NAMES};
+use crate::sizes::Sizes;
+use crate::table::tests::file_of;
+
+pub(crate) const BENCH_CELL: [&str; 5] = [
+    "0,0,1,1,1",
+    "0,1,3,5,0",
+    "1,0,2,5,1",
+    "1,1,1,2,2",
+    "1,2,1,3,0",
+];
+
+pub(crate) const BENCH_RECIPE: [&str; 5] = [
+    "0,1,1,0,1,1,0",
+    "1,2,2,1,0,2,3",
+    "2,1,3,1,0,4,0",
+    "3,1,3,1,0,0,0",
+    "4,0,0,0,0,0,0",
+];
+
+/// The cell with these lines, which the reader must accept.
+pub(crate) fn cell_of(lines: &[&str]) -> Cell {
+    let reading = read_cell(&file_of(CELL_NAMES, lines));
+    assert_eq!(reading.refusal.number, 0, "{lines:?}");
+    reading.record
+}
+
+/// The recipe with these lines, which the reader must accept.
+pub(crate) fn recipe_of(lines: &[&str]) -> Recipe {
+    let reading = read_recipe(&file_of(RECIPE_NAMES, lines));
+    assert_eq!(reading.refusal.number, 0, "{lines:?}");
+    reading.record
+}
+
+pub(crate) fn bench() -> (Cell, Recipe) {
+    (cell_of(&BENCH_CELL), recipe_of(&BENCH_RECIPE))
+}
+
+/// The bench example's table, as far as a run from the start can come.
+pub(crate) fn bench_table() -> Vec<u32> {
+    let mut table = vec![0; 90];
+    table[0] = 50_331_648;
+    table[22] = 33_554_561;
+    table[26] = 50_331_651;
+    table[50] = 50_331_652;
+    table[68] = 50_331_652;
+    table[72] = 67_108_864;
+    table
+}
+
+/// Three resources of four states each, five parts, 16 points.
+pub(crate) fn limit() -> (Cell, Recipe) {
+    let points: Vec<String> = (0..16)
+        .map(|point| format!("{point},1,1,16,1,{},0", (point + 1) % 16))
+        .collect();
+    let points: Vec<&str> = points.iter().map(String::as_str).collect();
+    let cell = cell_of(&["0,3,1,1,0", "1,0,1,1,3", "2,2,0,0,3"]);
+    (cell, recipe_of(&points))
+}
+
+/// The same with a fifth state in one resource.
+pub(crate) fn limit_with_a_fifth_state() -> (Cell, Recipe) {
+    let (mut cell, recipe) = limit();
+    cell.to[1] = 4;
+    (cell, recipe)
+}
+
+/// Three stations and a pallet lane, with every kind of move: parallel dos in which one line takes
+/// what the other gives, a rework loop, and transfers of several parts.
+pub(crate) fn lane() -> (Cell, Recipe) {
+    let cell = cell_of(&[
+        "0,0,1,7,1",
+        "0,1,3,2,0",
+        "0,1,0,9,0",
+        "1,0,2,2,1",
+        "1,1,3,3,0",
+        "1,0,1,7,1",
+        "1,1,1,8,1",
+        "2,0,2,3,1",
+        "2,0,1,7,0",
+        "2,1,1,8,1",
+        "2,1,3,4,0",
+        "0,0,2,4,1",
+    ]);
+    let recipe = recipe_of(&[
+        "0,1,7,0,1,1,0",
+        "0,1,7,0,2,1,0",
+        "1,2,8,1,0,2,3",
+        "2,1,8,1,2,4,0",
+        "2,1,7,2,1,4,0",
+        "3,1,8,1,0,0,0",
+        "4,0,0,0,0,0,0",
+    ]);
+    (cell, recipe)
+}
+
+/// The numbers of SplitMix64, which look random and are the same in every run.
+pub(crate) struct Random(pub u64);
+
+impl Random {
+    pub(crate) fn bits(&mut self) -> u64 {
+        self.0 = self.0.wrapping_add(0x9e37_79b9_7f4a_7c15);
+        let mut z = self.0;
+        z = (z ^ (z >> 30)).wrapping_mul(0xbf58_476d_1ce4_e5b9);
+        z = (z ^ (z >> 27)).wrapping_mul(0x94d0_49bb_1331_11eb);
+        z ^ (z >> 31)
+    }
+
+    pub(crate) fn below(&mut self, bound: usize) -> usize {
+        (self.bits() % bound as u64) as usize
+    }
+}
+
+/// A table with an open move at most positions that have one, and here and there some other entry.
+pub(crate) fn some_table(cell: &Cell, recipe: &Recipe, random: &mut Random) -> Vec<u32> {
+    let sizes = Sizes::of(cell, recipe);
+    (0..sizes.positions)
+        .map(|position| {
+            let (point, configuration) = sizes.at(position);
+            let lines = usize::from(cell.count);
+            let mut open = Vec::new();
+            for kind in [INTERNAL, TRANSFER, CARRY, STAY] {
+                for letters in 0..lines * lines {
+                    let letters = [letters % lines, letters / lines, 0, 0];
+                    let entry = entry_of(kind, letters);
+                    if is_open(cell, recipe, point, &configuration, entry) {
+                        open.push(entry);
+                    }
+                }
+            }
+            match random.below(10) {
+                0 => random.bits() as u32,
+                _ if open.is_empty() => 0,
+                _ => open[random.below(open.len())],
+            }
+        })
+        .collect()
+}

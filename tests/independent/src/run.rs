@@ -1,0 +1,346 @@
+//! The run over a stored table: fresh, next-move, report and place, each of which checks anew what
+//! it is handed.
+
+use crate::cell::{check_cell, Cell};
+use crate::entry::{is_open, makes};
+use crate::recipe::{check_recipe, Recipe, END};
+use crate::sizes::{Configuration, Sizes, MOST_POSITIONS};
+use crate::table::Refusal;
+
+/// The length of a run in bytes.
+pub const RUN_BYTES: usize = 15;
+
+/// The place that a refused place call gives, and any for a part that isn't there.
+const NO_PLACE: u8 = 255;
+
+/// A point and a configuration.
+#[derive(Clone, Copy, Debug, PartialEq, Eq)]
+pub struct Run {
+    pub point: u8,
+    pub configuration: Configuration,
+}
+
+/// The answer of a next-move call: a refusal with entry 0, or refusal 0 with the entry.
+#[derive(Clone, Copy, Debug, PartialEq, Eq)]
+pub struct NextMove {
+    pub refusal: u8,
+    pub entry: u32,
+}
+
+/// The answer of a report: a refusal with its own run, or refusal 0 with the next run.
+#[derive(Clone, Copy, Debug, PartialEq, Eq)]
+pub struct Report {
+    pub refusal: u8,
+    pub run: Run,
+}
+
+/// The answer of a place call: a refusal with 255, or refusal 0 with the place.
+#[derive(Clone, Copy, Debug, PartialEq, Eq)]
+pub struct Place {
+    pub refusal: u8,
+    pub place: u8,
+}
+
+/// The first of the rules 3 to 13 that a cell and a recipe break, the cell first; 0 if they break
+/// none.
+pub fn check(cell: &Cell, recipe: &Recipe) -> u8 {
+    try_records(cell, recipe).err().unwrap_or(0)
+}
+
+fn try_records(cell: &Cell, recipe: &Recipe) -> Result<Sizes, u8> {
+    try_rules(check_cell(cell))?;
+    try_rules(check_recipe(recipe))?;
+    let sizes = Sizes::of(cell, recipe);
+    if sizes.positions > MOST_POSITIONS {
+        return Err(13);
+    }
+    Ok(sizes)
+}
+
+/// A call on a run names no line, so that of a refused record only the rule is left.
+fn try_rules(refusal: Refusal) -> Result<(), u8> {
+    match refusal.number {
+        0 => Ok(()),
+        number => Err(number),
+    }
+}
+
+impl Run {
+    /// The run at point 0 in the starting configuration.
+    pub fn fresh() -> Run {
+        Run {
+            point: 0,
+            configuration: Configuration::START,
+        }
+    }
+
+    /// Gives the entry at the run's position.
+    pub fn next_move(&self, cell: &Cell, recipe: &Recipe, table: &[u32]) -> NextMove {
+        let entry = self.try_entry(cell, recipe, table).and_then(|entry| {
+            let open = is_open(cell, recipe, self.point, &self.configuration, entry);
+            open.then_some(entry).ok_or(18)
+        });
+        match entry {
+            Ok(entry) => NextMove { refusal: 0, entry },
+            Err(refusal) => NextMove { refusal, entry: 0 },
+        }
+    }
+
+    /// Makes the move at the run's position and gives the next run.
+    pub fn report(self, cell: &Cell, recipe: &Recipe, table: &[u32], outcome: u8) -> Report {
+        match self.next(cell, recipe, table, outcome) {
+            Ok(run) => Report { refusal: 0, run },
+            Err(refusal) => Report { refusal, run: self },
+        }
+    }
+
+    fn next(&self, cell: &Cell, recipe: &Recipe, table: &[u32], outcome: u8) -> Result<Run, u8> {
+        let entry = self.try_entry(cell, recipe, table)?;
+        if outcome > 1 {
+            return Err(17);
+        }
+        let Run {
+            point,
+            configuration,
+        } = self;
+        let made = makes(cell, recipe, *point, configuration, entry, outcome);
+        let (next, configuration) = made.ok_or(18)?;
+        if recipe.kind_at(*point) == END {
+            return Err(19);
+        }
+        Ok(Run {
+            point: next,
+            configuration,
+        })
+    }
+
+    /// Gives a part's place.
+    pub fn place(&self, cell: &Cell, recipe: &Recipe, part: u8) -> Place {
+        let sizes = try_records(cell, recipe).and_then(|sizes| self.try_run(sizes));
+        match sizes {
+            Ok(sizes) if usize::from(part) < sizes.parts => Place {
+                refusal: 0,
+                place: self.configuration.places[usize::from(part)],
+            },
+            refused => Place {
+                refusal: refused.err().unwrap_or(0),
+                place: NO_PLACE,
+            },
+        }
+    }
+
+    /// The entry at the run's position, unless one of the rules up to 16 is broken.
+    fn try_entry(&self, cell: &Cell, recipe: &Recipe, table: &[u32]) -> Result<u32, u8> {
+        let sizes = try_records(cell, recipe)?;
+        if (table.len() as u64) < sizes.positions {
+            return Err(14);
+        }
+        let sizes = self.try_run(sizes)?;
+        let position = sizes.position(self.point, &self.configuration);
+        Ok(table[position as usize])
+    }
+
+    /// Rule 16.
+    fn try_run(&self, sizes: Sizes) -> Result<Sizes, u8> {
+        if sizes.holds(self.point, &self.configuration) {
+            Ok(sizes)
+        } else {
+            Err(16)
+        }
+    }
+}
+
+/// The run as bytes: the point, six states, eight places.
+pub fn run_bytes(run: &Run) -> [u8; RUN_BYTES] {
+    let mut bytes = [0; RUN_BYTES];
+    bytes[0] = run.point;
+    bytes[1..7].copy_from_slice(&run.configuration.states);
+    bytes[7..].copy_from_slice(&run.configuration.places);
+    bytes
+}
+
+/// The run that the bytes say. Those past its end count for nothing, and too few bytes are a run
+/// out of range.
+pub fn run_of_bytes(bytes: &[u8]) -> Run {
+    let mut run = Run::fresh();
+    match bytes.get(..RUN_BYTES) {
+        Some(bytes) => {
+            run.point = bytes[0];
+            run.configuration.states.copy_from_slice(&bytes[1..7]);
+            run.configuration.places.copy_from_slice(&bytes[7..]);
+        }
+        None => run.point = u8::MAX,
+    }
+    run
+}
+
+#[cfg(test)]
+mod tests {
+    use super::*;
+    use crate::fixtures::{
+        bench, bench_table, cell_of, limit, limit_with_a_fifth_state, recipe_of, BENCH_CELL,
+    };
+
+    /// The run at a position of the bench example.
+    fn run_at(position: u64) -> Run {
+        let (cell, recipe) = bench();
+        let (point, configuration) = Sizes::of(&cell, &recipe).at(position);
+        Run {
+            point,
+            configuration,
+        }
+    }
+
+    /// What a next-move call and a report with each outcome say at a position of the bench example.
+    fn refusals(table: &[u32], run: Run) -> [u8; 4] {
+        let (cell, recipe) = bench();
+        let next_move = run.next_move(&cell, &recipe, table);
+        assert!(next_move.refusal == 0 || next_move.entry == 0);
+        let reports = [0, 1, 2].map(|outcome| {
+            let report = run.report(&cell, &recipe, table, outcome);
+            assert!(report.refusal == 0 || report.run == run);
+            report.refusal
+        });
+        [next_move.refusal, reports[0], reports[1], reports[2]]
+    }
+
+    #[test]
+    fn the_four_moves_of_the_bench_example() {
+        let (cell, recipe) = bench();
+        let sizes = Sizes::of(&cell, &recipe);
+        let table = bench_table();
+        let mut run = Run::fresh();
+        let moves = [
+            (0, 50_331_648, 0, 22),
+            (22, 33_554_561, 0, 26),
+            (26, 50_331_651, 1, 50),
+            (50, 50_331_652, 0, 72),
+        ];
+        for (position, entry, outcome, next) in moves {
+            assert_eq!(sizes.position(run.point, &run.configuration), position);
+            let answer = run.next_move(&cell, &recipe, &table);
+            assert_eq!(answer, NextMove { refusal: 0, entry });
+            let report = run.report(&cell, &recipe, &table, outcome);
+            assert_eq!(report.refusal, 0);
+            run = report.run;
+            assert_eq!(sizes.position(run.point, &run.configuration), next);
+        }
+        let end = run.next_move(&cell, &recipe, &table);
+        assert_eq!((end.refusal, end.entry), (0, 67_108_864));
+        assert_eq!(refusals(&table, run), [0, 19, 19, 17]);
+    }
+
+    #[test]
+    fn a_failed_test_leads_to_68_and_that_to_the_start() {
+        let (cell, recipe) = bench();
+        let table = bench_table();
+        let failed = run_at(26).report(&cell, &recipe, &table, 0);
+        assert_eq!((failed.refusal, failed.run), (0, run_at(68)));
+        for outcome in [0, 1] {
+            let again = failed.run.report(&cell, &recipe, &table, outcome);
+            assert_eq!((again.refusal, again.run), (0, Run::fresh()));
+        }
+    }
+
+    #[test]
+    fn rule_13_at_the_limit() {
+        let (cell, recipe) = limit();
+        assert_eq!(check(&cell, &recipe), 0);
+        assert_eq!(Run::fresh().place(&cell, &recipe, 4).refusal, 0);
+        let (cell, recipe) = limit_with_a_fifth_state();
+        assert_eq!(check(&cell, &recipe), 13);
+        assert_eq!(Run::fresh().next_move(&cell, &recipe, &[]).refusal, 13);
+        assert_eq!(Run::fresh().report(&cell, &recipe, &[], 9).refusal, 13);
+        let place = Run::fresh().place(&cell, &recipe, 4);
+        assert_eq!((place.refusal, place.place), (13, 255));
+    }
+
+    #[test]
+    fn the_cell_is_judged_before_the_recipe_and_both_before_the_rest() {
+        let (mut cell, mut recipe) = bench();
+        cell.arg[2] = 6;
+        recipe.count = 0;
+        let answers = |cell: &Cell, recipe: &Recipe| {
+            let mut run = Run::fresh();
+            run.point = 99;
+            [
+                check(cell, recipe),
+                run.next_move(cell, recipe, &[]).refusal,
+                run.report(cell, recipe, &[], 9).refusal,
+                run.place(cell, recipe, 0).refusal,
+            ]
+        };
+        assert_eq!(answers(&cell, &recipe), [6; 4]);
+        cell.arg[2] = 5;
+        assert_eq!(answers(&cell, &recipe), [3; 4]);
+        recipe.count = 5;
+        assert_eq!(answers(&cell, &recipe), [0, 14, 14, 16]);
+    }
+
+    #[test]
+    fn rules_14_to_19_are_tried_in_order() {
+        let table = bench_table();
+        let mut gone = run_at(0);
+        gone.point = 5;
+        assert_eq!(refusals(&table[..89], gone), [14; 4]);
+        assert_eq!(refusals(&table, gone), [16; 4]);
+        // Position 1 has entry 0, and at an end an entry that isn't open is refused as such.
+        assert_eq!(refusals(&table, run_at(1)), [18, 18, 18, 17]);
+        let blank = [0; 90];
+        assert_eq!(refusals(&blank, run_at(72)), [18, 18, 18, 17]);
+        assert_eq!(refusals(&table, run_at(72)), [0, 19, 19, 17]);
+        assert_eq!(refusals(&table, run_at(26)), [0, 0, 0, 17]);
+    }
+
+    #[test]
+    fn a_longer_table_is_read_at_the_same_positions() {
+        let (cell, recipe) = bench();
+        let mut table = bench_table();
+        table.push(7);
+        let answer = run_at(22).next_move(&cell, &recipe, &table);
+        assert_eq!((answer.refusal, answer.entry), (0, 33_554_561));
+    }
+
+    #[test]
+    fn places_of_parts_there_and_not_there() {
+        let (cell, recipe) = bench();
+        let places = |part| {
+            let place = run_at(26).place(&cell, &recipe, part);
+            (place.refusal, place.place)
+        };
+        assert_eq!(places(0), (0, 2));
+        assert_eq!(places(1), (0, 255));
+        assert_eq!(places(255), (0, 255));
+        let mut run = run_at(26);
+        run.configuration.places[1] = 1;
+        assert_eq!(run.place(&cell, &recipe, 0).refusal, 16);
+        assert_eq!(run.place(&cell, &recipe, 9).place, 255);
+    }
+
+    #[test]
+    fn a_recipe_of_one_end() {
+        let cell = cell_of(&BENCH_CELL);
+        let recipe = recipe_of(&["0,0,0,0,0,0,0"]);
+        let table = [67_108_864; 6];
+        assert_eq!(check(&cell, &recipe), 0);
+        let answer = Run::fresh().next_move(&cell, &recipe, &table);
+        assert_eq!((answer.refusal, answer.entry), (0, 67_108_864));
+        assert_eq!(Run::fresh().report(&cell, &recipe, &table, 1).refusal, 19);
+        assert_eq!(
+            Run::fresh().next_move(&cell, &recipe, &table[..5]).refusal,
+            14
+        );
+    }
+
+    #[test]
+    fn bytes_are_read_back_unless_they_are_too_few() {
+        let run = run_at(26);
+        let mut bytes = run_bytes(&run).to_vec();
+        assert_eq!(bytes, [1, 0, 1, 0, 0, 0, 0, 2, 0, 0, 0, 0, 0, 0, 0]);
+        bytes.push(9);
+        assert_eq!(run_of_bytes(&bytes), run);
+        let (cell, recipe) = bench();
+        let short = run_of_bytes(&bytes[..14]);
+        assert_eq!(short.place(&cell, &recipe, 0).refusal, 16);
+    }
+}
