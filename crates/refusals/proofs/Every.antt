@@ -1,7 +1,7 @@
 -- Tests of every number below a bound, and how many pass. Assumes nothing.
 use mathlib.Core.Path.{_≡_, refl, sym, subst, _∙_}
 use mathlib.Core.Logic.{⊎-elim}
-use mathlib.Core.Bool.{Bool, true, false, cond, not, _&&_}
+use mathlib.Core.Bool.{Bool, true, false, cond, not, _&&_, and-true}
 use Prim.Native.Nat.{ℕ, zero, suc, _+_, _<_, _≤_}
 use native.Mathlib.Nat.{le-of-suc-le-suc, eq-or-lt-of-le, not-suc-le-zero}
 use native.Mathlib.Numerals.{add-one}
@@ -80,41 +80,20 @@ module _ (f : ℕ → Bool) where
       rw (others n (omega arith) (λ (z : n ≡ k). omega arith)) (count-one n k lt here (λ (i : ℕ) (less : i < n) (ne : i ≡ k → ⊥). others i (omega arith) ne)))
       (eq-or-lt-of-le (le-of-suc-le-suc low))
 
-  -- a number that passes is counted
-  pub count-some : (n k : ℕ) → k < n → f k ≡ true → 1 ≤ countBelow f n
+-- two tests that agree below n pass alike
+module _ (f g : ℕ → Bool) where
+  pub all-same : (n : ℕ) → ((i : ℕ) → i < n → f i ≡ g i) → allBelow f n ≡ allBelow g n
+  unfolding allBelow
+  all-same zero same = refl
+  all-same (suc n) same = rw (same n (omega arith), all-same n (λ i low. same i (omega arith)))
+
+  -- and as often
+  pub count-same : (n : ℕ) → ((i : ℕ) → i < n → f i ≡ g i) → countBelow f n ≡ countBelow g n
   unfolding countBelow
-  count-some zero k low here = absurd (not-suc-le-zero low)
-  count-some (suc n) k low here =
-      ⊎-elim
-      (λ (e : k ≡ n). rw (subst (λ (m : ℕ). f m ≡ true) e here) (omega arith))
-      (λ (lt : k < n). more (f n) (count-some n k lt here))
-      (eq-or-lt-of-le (le-of-suc-le-suc low))
-    where
-      more : (b : Bool) → 1 ≤ countBelow f n → 1 ≤ cond b (suc (countBelow f n)) (countBelow f n)
-      more true h = omega arith
-      more false h = h
+  count-same zero same = refl
+  count-same (suc n) same = rw (same n (omega arith), count-same n (λ i low. same i (omega arith)))
 
-  -- two numbers that pass are counted twice
-  pub count-two : (n i k : ℕ) → i < k → k < n → f i ≡ true → f k ≡ true → 2 ≤ countBelow f n
-  unfolding countBelow
-  count-two zero i k less low here there = absurd (not-suc-le-zero low)
-  count-two (suc n) i k less low here there =
-      ⊎-elim
-      (λ (e : k ≡ n). rw (subst (λ (m : ℕ). f m ≡ true) e there) (omega (arith, count-some n i (omega arith) here)))
-      (λ (lt : k < n). more (f n) (count-two n i k less lt here there))
-      (eq-or-lt-of-le (le-of-suc-le-suc low))
-    where
-      more : (b : Bool) → 2 ≤ countBelow f n → 2 ≤ cond b (suc (countBelow f n)) (countBelow f n)
-      more true h = omega arith
-      more false h = h
-
--- two tests that agree below n pass as often
-count-same : (f g : ℕ → Bool) (n : ℕ) → ((i : ℕ) → i < n → f i ≡ g i) → countBelow g n ≡ countBelow f n
-unfolding countBelow
-count-same f g zero same = refl
-count-same f g (suc n) same = rw (same n (omega arith), count-same f g n (λ i low. same i (omega arith)))
-
--- and one that passes at one number more once more
+-- one that passes at one number more passes once more
 pub count-more :
     (f g : ℕ → Bool) (n k : ℕ)
     → k < n
@@ -151,9 +130,5 @@ count-many f g n zero low pass differ = omega arith
 count-many f g n (suc m) low pass differ =
     let others : ℕ → Bool = λ i. f i && not (eqb i (g m)) in
     let rest : m ≤ countBelow others n = count-many others g n m (λ j less. low j (omega arith)) (λ j less. rw (pass j (omega arith), ne-eqb (g j) (g m) (differ j m less (omega arith)))) (λ i j less most. differ i j less (omega arith)) in
-    let one : countBelow f n ≡ suc (countBelow others n) = count-more others f n (g m) (low m (omega arith)) (rw (pass m (omega arith), eq-eqb (g m) (g m) refl)) (pass m (omega arith)) (λ i less ne. rw (ne-eqb i (g m) ne) (both (f i))) in
+    let one : countBelow f n ≡ suc (countBelow others n) = count-more others f n (g m) (low m (omega arith)) (rw (pass m (omega arith), eq-eqb (g m) (g m) refl)) (pass m (omega arith)) (λ i less ne. rw (ne-eqb i (g m) ne) (and-true (f i))) in
     omega arith
-  where
-    both : (b : Bool) → (b && true) ≡ b
-    both true = refl
-    both false = refl

@@ -47,6 +47,10 @@ module _ (f : ℕ → ℕ) where
       at : (i : ℕ) → i < n → getD (tabulate n f) i 0 ≡ getD l i 0
       at i low = tabulate-at n i low ∙ each i low
 
+-- the values of two functions that agree
+pub tabulate-same : (f g : ℕ → ℕ) (n : ℕ) → ((i : ℕ) → i < n → f i ≡ g i) → tabulate n f ≡ tabulate n g
+tabulate-same f g n same = tabulate-is f (tabulate n g) n (length-tabulate g n) (λ i low. same i low ∙ sym (tabulate-at g n i low))
+
 -- a store at k, where g has the value that is stored and elsewhere f's values
 pub tabulate-set :
     (f g : ℕ → ℕ) (n k : ℕ)

@@ -92,6 +92,12 @@ module _ (f : ℕ → Bool) where
   pub first-one : (i n : ℕ) → i < n → f i ≡ true → ((j : ℕ) → j < i → f j ≡ false) → firstBelow f n ≡ i
   first-one i n low here none = first-hit i n low (first-past i none) here
 
+-- two tests that agree below n find the same
+pub first-same : (f g : ℕ → Bool) (n : ℕ) → ((i : ℕ) → i < n → f i ≡ g i) → firstBelow f n ≡ firstBelow g n
+unfolding firstBelow
+first-same f g zero same = refl
+first-same f g (suc n) same = rw (same n (omega arith), first-same f g n (λ i low. same i (omega arith)))
+
 module _ (f : ℕ → ℕ) where
   pub greatest-more : (i : ℕ) → greatestBelow f i ≤ f i → greatestBelow f (i + 1) ≡ f i
   unfolding greatestBelow
