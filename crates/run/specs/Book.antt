@@ -36,9 +36,18 @@ pub data Answer : Type 0 where
 unfoldable pub opened : ℕ → Configuration → Book
 opened p a = record { point = p; configuration = a; q = 0 }
 
+-- what names the book's move: the outcomes accepted so far, the latest first, and the book
+abbrev pub Mover : Type 0
+Mover = List ℕ → Book → ℕ
+
 -- "Its move is the entry at its own position."
-unfoldable pub moveOf : Cell → Recipe → List ℕ → Book → ℕ
-moveOf c r table b = getD table (positionOf (sizesOf c r) (b .point) (b .configuration)) 0
+unfoldable pub byTable : Cell → Recipe → List ℕ → Mover
+byTable c r table accepted b = getD table (positionOf (sizesOf c r) (b .point) (b .configuration)) 0
+
+-- "A rule choosing single moves names one for every list of outcomes accepted so far, the empty list too. Under a rule the
+-- book has the rule's move in place of the entry"
+unfoldable pub byRule : (List ℕ → ℕ) → Mover
+byRule rule accepted b = rule accepted
 
 unfoldable pub atEnd : Recipe → Book → Bool
 atEnd r b = eqb (kindOf r (b .point)) 0
@@ -49,11 +58,11 @@ unfoldable pub isOpen : Cell → Recipe → Book → ℕ → Bool
 isOpen c r b e =
     cond (atEnd r b) (eqb e endEntry) (isFormed c r (b .point) e && mayBeTaken c r (b .point) (b .configuration) e)
 
--- the refusal of a report: "17 for an outcome above 1, else 18 if the move isn't open, else 19 at an end"
-unfoldable pub refusalOf : Cell → Recipe → List ℕ → Book → ℕ → ℕ
-refusalOf c r table b outcome =
+-- the refusal of a report, e being the book's move: "17 for an outcome above 1, else 18 if the move isn't open, else 19 at an end"
+unfoldable pub refusalOf : Cell → Recipe → Book → ℕ → ℕ → ℕ
+refusalOf c r b e outcome =
     cond (ltb 1 outcome) (numberOf OutcomeRange)
-    (cond (isOpen c r b (moveOf c r table b)) (cond (atEnd r b) (numberOf AtEnd) 0) (numberOf NotOpen))
+    (cond (isOpen c r b e) (cond (atEnd r b) (numberOf AtEnd) 0) (numberOf NotOpen))
 
 -- "Each line taken sets its resource to its `to`": resource k, that was in state s, after the first n lines
 unfoldable pub setTo : Cell → (ℕ → ℕ) → ℕ → ℕ → ℕ → ℕ
@@ -85,30 +94,45 @@ made c r b e outcome =
     (record { point = pointAfter r (b .point) outcome; configuration = configurationAfter c r (b .point) (b .configuration) e; q = 0 })
     (record { point = b .point; configuration = configurationAfter c r (b .point) (b .configuration) e; q = b .q + 1 })
 
--- the book after a call: "None of these changes the book .. Any other report makes the move"
-unfoldable pub turned : Cell → Recipe → List ℕ → Book → Call → Book
-turned c r table b asks = b
-turned c r table b (reports outcome) =
-    cond (eqb (refusalOf c r table b outcome) 0) (made c r b (moveOf c r table b) outcome) b
+-- a report that is not refused
+unfoldable pub isAccepted : Cell → Recipe → Book → ℕ → ℕ → Bool
+isAccepted c r b e outcome = eqb (refusalOf c r b e outcome) 0
+
+-- the book after a call, e being its move: "None of these changes the book .. Any other report makes the move"
+unfoldable pub turned : Cell → Recipe → Book → ℕ → Call → Book
+turned c r b e asks = b
+turned c r b e (reports outcome) = cond (isAccepted c r b e outcome) (made c r b e outcome) b
+
+-- the outcomes accepted so far, after a call
+unfoldable pub noted : Cell → Recipe → Book → ℕ → Call → List ℕ → List ℕ
+noted c r b e asks accepted = accepted
+noted c r b e (reports outcome) accepted = cond (isAccepted c r b e outcome) (outcome ∷ accepted) accepted
 
 -- the answer to a call: "a refused next-move call also gives entry 0, a refused report the book's point and configuration",
 -- and any other report "the book's new point and configuration"
-unfoldable pub answer : Cell → Recipe → List ℕ → Book → Call → Answer
-answer c r table b asks =
-    cond (isOpen c r b (moveOf c r table b)) (moved 0 (moveOf c r table b)) (moved (numberOf NotOpen) 0)
-answer c r table b (reports outcome) =
-    let b′ = turned c r table b (reports outcome) in
-    reported (refusalOf c r table b outcome) (b′ .point) (b′ .configuration)
+unfoldable pub answer : Cell → Recipe → Book → ℕ → Call → Answer
+answer c r b e asks = cond (isOpen c r b e) (moved 0 e) (moved (numberOf NotOpen) 0)
+answer c r b e (reports outcome) =
+    let b′ = turned c r b e (reports outcome) in
+    reported (refusalOf c r b e outcome) (b′ .point) (b′ .configuration)
 
--- the books after each call of a list
-unfoldable pub books : Cell → Recipe → List ℕ → Book → List Call → List Book
-books c r table b [] = []
-books c r table b (call ∷ calls) = turned c r table b call ∷ books c r table (turned c r table b call) calls
+-- a call as the book meets it: the book before it, and its move there
+pub record Moment : Type 0 where
+  pub book : Book
+  pub move : ℕ
+  pub call : Call
 
--- the answers to a list of calls
-unfoldable pub answers : Cell → Recipe → List ℕ → Book → List Call → List Answer
-answers c r table b [] = []
-answers c r table b (call ∷ calls) = answer c r table b call ∷ answers c r table (turned c r table b call) calls
+-- a list of calls as the book meets them
+unfoldable pub moments : Cell → Recipe → Mover → List ℕ → Book → List Call → List Moment
+moments c r mover accepted b [] = []
+moments c r mover accepted b (call ∷ calls) =
+    let e = mover accepted b in
+    record { book = b; move = e; call = call } ∷ moments c r mover (noted c r b e call accepted) (turned c r b e call) calls
+
+-- the answers to them
+unfoldable pub answers : Cell → Recipe → List Moment → List Answer
+answers c r [] = []
+answers c r (m ∷ later) = answer c r (m .book) (m .move) (m .call) ∷ answers c r later
 
 -- a move that is issued, with the book's configuration before it and the outcome reported
 pub record Issue : Type 0 where
@@ -116,14 +140,13 @@ pub record Issue : Type 0 where
   pub configuration : Configuration
   pub outcome : ℕ
 
--- "Any other report makes the move, which is then issued": the moves that a list of calls issues, in order
-unfoldable pub issuedBy : Cell → Recipe → List ℕ → Book → Call → List Issue → List Issue
-issuedBy c r table b asks later = later
-issuedBy c r table b (reports outcome) later =
-    cond (eqb (refusalOf c r table b outcome) 0)
-    (record { entry = moveOf c r table b; configuration = b .configuration; outcome = outcome } ∷ later)
-    later
+-- "Any other report makes the move, which is then issued"
+unfoldable pub issuedBy : Cell → Recipe → Book → ℕ → Call → List Issue → List Issue
+issuedBy c r b e asks later = later
+issuedBy c r b e (reports outcome) later =
+    cond (isAccepted c r b e outcome) (record { entry = e; configuration = b .configuration; outcome = outcome } ∷ later) later
 
-unfoldable pub issued : Cell → Recipe → List ℕ → Book → List Call → List Issue
-issued c r table b [] = []
-issued c r table b (call ∷ calls) = issuedBy c r table b call (issued c r table (turned c r table b call) calls)
+-- the moves issued, in order
+unfoldable pub issued : Cell → Recipe → List Moment → List Issue
+issued c r [] = []
+issued c r (m ∷ later) = issuedBy c r (m .book) (m .move) (m .call) (issued c r later)

@@ -16,7 +16,7 @@ use Rattle.steps.specs.Carry.{present, free, carries}
 use Rattle.steps.specs.Entry.{entryKind, letter, stepOf}
 use Rattle.run.specs.declared.Run.{Run}
 use Rattle.run.specs.Calls.{nextMove, reportOf}
-use Rattle.run.specs.Book.{Book, Call, asks, reports, Answer, moved, reported, Issue, opened, atEnd, isOpen, turned, answers, books, issued, pointAfter}
+use Rattle.run.specs.Book.{Book, Call, asks, reports, Answer, moved, reported, Moment, Issue, opened, byTable, byRule, atEnd, isOpen, isAccepted, turned, moments, answers, issued, pointAfter}
 
 -- "take any list of next-move calls and reports from a fresh run, .. each call on the run that the last report left"
 unfoldable pub runAfter : Cell → Recipe → List ℕ → Run → Call → Run
@@ -43,17 +43,13 @@ every test (x ∷ xs) = test x && every test xs
 unfoldable pub agree : Bool → Bool → Bool
 agree a b = cond a b (not b)
 
--- "Outcomes 0 and 1 were refused exactly at an end", of one call
-unfoldable pub refusedRightly : Cell → Recipe → List ℕ → Book → Run → Call → Bool
-refusedRightly c r table b run asks = true
-refusedRightly c r table b run (reports outcome) =
-    cond (ltb 1 outcome) true (agree (not (eqb (refusalIn (reportOf c r table run outcome .verdict)) 0)) (atEnd r b))
+-- "Outcomes 0 and 1 were refused exactly at an end", of a call to the book, e being its move
+unfoldable pub rightly : Cell → Recipe → Book → ℕ → Call → Bool
+rightly c r b e asks = true
+rightly c r b e (reports outcome) = cond (ltb 1 outcome) true (agree (not (isAccepted c r b e outcome)) (atEnd r b))
 
--- and of a list
-unfoldable pub endsAlone : Cell → Recipe → List ℕ → Book → Run → List Call → Bool
-endsAlone c r table b run [] = true
-endsAlone c r table b run (call ∷ calls) =
-    refusedRightly c r table b run call && endsAlone c r table (turned c r table b call) (runAfter c r table run call) calls
+unfoldable pub refusedRightly : Cell → Recipe → Moment → Bool
+refusedRightly c r m = rightly c r (m .book) (m .move) (m .call)
 
 -- "18 is never an answer"
 unfoldable pub neverShut : Answer → Bool
@@ -86,17 +82,27 @@ carriedPoint c r p issue =
     (carries c r p (stepOf c r p (issue .entry)) (letter (issue .entry)) (issue .configuration))
     true
 
--- "Silent moves never numbered J × W in a row": "q stays below J × W"
-unfoldable pub countBelowLimit : Cell → Recipe → Book → Bool
-countBelowLimit c r b = ltb (b .q) (sizesOf c r .joint * sizesOf c r .ways)
+-- "Silent moves never numbered J × W in a row": "q stays below J × W", after a call too
+unfoldable pub fewSilent : Cell → Recipe → Moment → Bool
+fewSilent c r m = ltb (turned c r (m .book) (m .move) (m .call) .q) (sizesOf c r .joint * sizesOf c r .ways)
+
+-- the promises of demand 3 for a list of calls as the book meets them, from point p on, but for what a run answers
+pub record Keeps (c : Cell) (r : Recipe) (p : ℕ) (met : List Moment) : Type 0 where
+  pub refused-at-ends : every (refusedRightly c r) met ≡ true
+  pub never-shut : every neverShut (answers c r met) ≡ true
+  pub moves-open : everyIssue (wasOpen c r) r p (issued c r met) ≡ true
+  pub parts-found : everyIssue (foundParts c r) r p (issued c r met) ≡ true
+  pub points-followed : everyIssue (carriedPoint c r) r p (issued c r met) ≡ true
+  pub silent-few : every (fewSilent c r) met ≡ true
 
 -- "Demand 3 is a single claim about the whole list and not one for each call. All calls get the same cell, recipe and table."
 pub record Promises (c : Cell) (r : Recipe) (table : List ℕ) (p : ℕ) (a : Configuration) (calls : List Call) : Type 0 where
   -- "all answers equal those of document 01's book"
-  pub same-answers : runAnswers c r table (record { point = p; configuration = a }) calls ≡ answers c r table (opened p a) calls
-  pub refused-at-ends : endsAlone c r table (opened p a) (record { point = p; configuration = a }) calls ≡ true
-  pub never-shut : every neverShut (answers c r table (opened p a) calls) ≡ true
-  pub moves-open : everyIssue (wasOpen c r) r p (issued c r table (opened p a) calls) ≡ true
-  pub parts-found : everyIssue (foundParts c r) r p (issued c r table (opened p a) calls) ≡ true
-  pub points-followed : everyIssue (carriedPoint c r) r p (issued c r table (opened p a) calls) ≡ true
-  pub silent-few : every (countBelowLimit c r) (books c r table (opened p a) calls) ≡ true
+  pub same-answers :
+      runAnswers c r table (record { point = p; configuration = a }) calls
+      ≡ answers c r (moments c r (byTable c r table) [] (opened p a) calls)
+  pub keeps : Keeps c r p (moments c r (byTable c r table) [] (opened p a) calls)
+
+-- "Under a rule the book has the rule's move in place of the entry, and the promises are read of that book."
+abbrev pub RuleKeeps : Cell → Recipe → (List ℕ → ℕ) → ℕ → Configuration → List Call → Type 0
+RuleKeeps c r rule p a calls = Keeps c r p (moments c r (byRule rule) [] (opened p a) calls)

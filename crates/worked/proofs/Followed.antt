@@ -16,8 +16,8 @@ use Rattle.steps.specs.Carry.{serves, matches, standsAt, present, isFree, free,
 use Rattle.steps.specs.Entry.{entryKind, letter, unused, lettersUsed, isLine, isFormed, only, stepOf, mayBeTaken, endEntry}
 use Rattle.steps.specs.Single.{ready, lineReady, internalOpen, transferOpen, lineServes, isApart, carryOpen, silentOpen, opens, statesAfter, linesTaken, handOver, transferred, carried, makes, leadsTo}
 use Rattle.run.specs.Calls.{entryAt, checkTable, rule17, rule18, rule19, moveAnswer, nextMove, nextRun, reportAnswer, reportOf}
-use Rattle.run.specs.Book.{Call, asks, reports, opened, moveOf, atEnd, isOpen, refusalOf, setTo, movedTo, configurationAfter, pointAfter, made, turned, answer, books, answers, issuedBy, issued}
-use Rattle.run.specs.Promises.{Promises, runAfter, runAnswer, runAnswers, every, agree, refusedRightly, endsAlone, neverShut, everyIssue, wasOpen, foundParts, carriedPoint, countBelowLimit}
+use Rattle.run.specs.Book.{Call, asks, reports, opened, byTable, atEnd, isOpen, refusalOf, setTo, movedTo, configurationAfter, pointAfter, made, isAccepted, turned, noted, answer, moments, answers, issuedBy, issued}
+use Rattle.run.specs.Promises.{Promises, runAfter, runAnswer, runAnswers, every, agree, rightly, refusedRightly, neverShut, everyIssue, wasOpen, foundParts, carriedPoint, fewSilent}
 use Rattle.worked.specs.Moves.{filled, benchCell, benchRecipe, entryOf, benchTable}
 
 -- asked and glued, passed on, an outcome that is none, a failed test, taken out; glued again, passed on, a good test, left;
@@ -37,16 +37,19 @@ unfolding firstBelow anyBelow allBelow countBelow greatestBelow tabulate before 
     isTaken isGiven mayDo acts actsOn howMany portFits isStep isSilent serves matches standsAt present isFree free carriesDo carriesTest carries putThere placed
     partsMoved entryKind letter unused lettersUsed isLine isFormed only stepOf mayBeTaken endEntry ready lineReady internalOpen transferOpen lineServes isApart
     carryOpen silentOpen opens statesAfter linesTaken handOver transferred carried makes leadsTo entryAt checkTable rule17 rule18 rule19 moveAnswer nextMove nextRun
-    reportAnswer reportOf opened moveOf atEnd isOpen refusalOf setTo movedTo configurationAfter pointAfter made turned answer books answers issuedBy issued
-    refusalIn runAfter runAnswer runAnswers every agree refusedRightly endsAlone neverShut everyIssue wasOpen foundParts carriedPoint countBelowLimit filled
+    reportAnswer reportOf opened byTable atEnd isOpen refusalOf setTo movedTo configurationAfter pointAfter made isAccepted turned noted answer moments answers issuedBy issued
+    refusalIn runAfter runAnswer runAnswers every agree rightly refusedRightly neverShut everyIssue wasOpen foundParts carriedPoint fewSilent filled
     benchCell benchRecipe entryOf benchTable
 followed =
     record {
       same-answers = refl;
-      refused-at-ends = refl;
-      never-shut = refl;
-      moves-open = refl;
-      parts-found = refl;
-      points-followed = refl;
-      silent-few = refl;
+      keeps =
+          record {
+            refused-at-ends = refl;
+            never-shut = refl;
+            moves-open = refl;
+            parts-found = refl;
+            points-followed = refl;
+            silent-few = refl;
+          };
     }
