@@ -1,0 +1,2 @@
+-- The laws of simulations, rules and plans.
+pub mod Machine

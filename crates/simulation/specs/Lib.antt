@@ -1,0 +1,3 @@
+pub mod Simulation
+pub mod Rule
+pub mod Plan

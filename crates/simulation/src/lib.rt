@@ -1,0 +1,1 @@
+// Simulations by joint steps, rules that choose moves, and what a plan is: definitions and laws, no code.
