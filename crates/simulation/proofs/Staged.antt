@@ -1,0 +1,172 @@
+-- A stage for each position, and the test of a list of stages that the checker computes: at a position of a stage above 0 no
+-- silent move raises the stage or ends it, and every carry has an outcome that lowers it. For recipes of one line to a point.
+-- Assumes nothing.
+use mathlib.Core.Path.{_≡_, refl, sym, ap, _∙_}
+use mathlib.Core.Logic.{_⊎_, inl, inr, ⊎-elim}
+use mathlib.Core.Bool.{Bool, true, false, cond, not, _&&_, _||_}
+use mathlib.Core.List.{List}
+use Prim.Native.Nat.{ℕ, _+_, _*_, _<_, _≤_}
+use native.Mathlib.Omega.{arith}
+use lib.ListN.{getD}
+use lib.Dec.{eqb, ltb, leb}
+use borrow.Author.Tests.{eqb-true, eqb-false, ne-eqb, ltb-true, leb-true, not-true}
+use Rattle.refusals.specs.declared.Verdict.the-variants.{Accepted}
+use Rattle.refusals.specs.Search.{allBelow}
+use Rattle.refusals.proofs.Every.{all-at}
+use Rattle.refusals.proofs.Verdicts.{and-left, and-right}
+use Rattle.cell.specs.declared.Cell.{Cell}
+use Rattle.cell.specs.Rules.{checkCell}
+use Rattle.recipe.specs.declared.Recipe.{Recipe}
+use Rattle.recipe.specs.Rules.{checkRecipe}
+use Rattle.positions.specs.declared.Configuration.{Configuration}
+use Rattle.positions.specs.Sizes.{sizesOf}
+use Rattle.positions.specs.Position.{positionOf, pointAt, configurationAt}
+use Rattle.positions.proofs.Sized.{fitting}
+use Rattle.positions.proofs.Places.{position-lt, point-back, configuration-back}
+use Rattle.steps.specs.Lines.{linesOf, kindOf, thenOf, elseOf}
+use Rattle.steps.specs.Entry.{entryKind, letter}
+use Rattle.steps.specs.Single.{opens, makes}
+use Rattle.steps.proofs.Anywhere.{open-kind, internal-opens, transfer-opens, opens-carry}
+use Rattle.simulation.specs.Simulation.{Position}
+use Rattle.simulation.proofs.Listing.{internal-listed, transfer-listed, carry-listed}
+
+unfoldable pub stageOf : Cell → Recipe → List ℕ → ℕ → Configuration → ℕ
+stageOf c r stages p a = getD stages (positionOf (sizesOf c r) p a) 0
+
+-- a stage above 0 and at most, or below, another
+unfoldable pub noMore : ℕ → ℕ → Bool
+noMore s t = ltb 0 s && leb s t
+
+unfoldable pub lower : ℕ → ℕ → Bool
+lower s t = ltb 0 s && ltb s t
+
+-- a silent entry, if it is open
+unfoldable pub staysStaged : Cell → Recipe → List ℕ → ℕ → Configuration → ℕ → Bool
+staysStaged c r stages p a e =
+    not (opens c r p a e) || noMore (stageOf c r stages p (makes c r p a e)) (stageOf c r stages p a)
+
+-- a carry, if it is open: at outcome 1 or, at a test, at outcome 0
+unfoldable pub falls : Cell → Recipe → List ℕ → ℕ → Configuration → ℕ → Bool
+falls c r stages p a e =
+    not (opens c r p a e)
+    || (lower (stageOf c r stages (thenOf r p) (makes c r p a e)) (stageOf c r stages p a)
+    || (eqb (kindOf r p) 2 && lower (stageOf c r stages (elseOf r p) (makes c r p a e)) (stageOf c r stages p a)))
+
+-- all single moves at a position
+unfoldable pub movesStaged : Cell → Recipe → List ℕ → ℕ → Configuration → Bool
+movesStaged c r stages p a =
+    allBelow (λ l. staysStaged c r stages p a (16777216 + l)) (c .count)
+    && (allBelow (λ l. allBelow (λ m. staysStaged c r stages p a (33554432 + l + 64 * m)) (c .count)) (c .count)
+    && allBelow (λ l. falls c r stages p a (50331648 + l)) (c .count))
+
+unfoldable pub positionStaged : Cell → Recipe → List ℕ → ℕ → Configuration → Bool
+positionStaged c r stages p a =
+    eqb (stageOf c r stages p a) 0
+    || (not (eqb (kindOf r p) 0) && (eqb (linesOf r p) 1 && movesStaged c r stages p a))
+
+-- the whole list
+unfoldable pub areStages : Cell → Recipe → List ℕ → Bool
+areStages c r stages =
+    allBelow (λ m. positionStaged c r stages (pointAt (sizesOf c r) m) (configurationAt (sizesOf c r) m)) (sizesOf c r .positions)
+
+-- what the test shows of a position of a stage above 0
+pub record Staged (c : Cell) (r : Recipe) (stages : List ℕ) (p : ℕ) (a : Configuration) : Type 0 where
+  pub going : kindOf r p ≡ 0 → ⊥
+  pub silent :
+      (e : ℕ)
+      → opens c r p a e ≡ true
+      → (entryKind e ≡ 3 → ⊥)
+      → noMore (stageOf c r stages p (makes c r p a e)) (stageOf c r stages p a) ≡ true
+  pub carry :
+      (e : ℕ)
+      → opens c r p a e ≡ true
+      → entryKind e ≡ 3
+      → (lower (stageOf c r stages (thenOf r p) (makes c r p a e)) (stageOf c r stages p a) ≡ true)
+      ⊎ ((kindOf r p ≡ 2) × (lower (stageOf c r stages (elseOf r p) (makes c r p a e)) (stageOf c r stages p a) ≡ true))
+
+or-cases : (x y : Bool) → (x || y) ≡ true → (x ≡ true) ⊎ (y ≡ true)
+or-cases true y e = inl refl
+or-cases false y e = inr e
+
+-- a test that holds if another does, and that one holds
+then-holds : (x y : Bool) → (not x || y) ≡ true → x ≡ true → y ≡ true
+then-holds true y e h = e
+then-holds false y e h = cc
+
+module _ (c : Cell) (r : Recipe) (stages : List ℕ) (p : ℕ) (a : Configuration) where
+  tested : positionStaged c r stages p a ≡ true → 0 < stageOf c r stages p a → Staged c r stages p a
+  unfolding positionStaged movesStaged staysStaged falls
+  tested good high =
+      let most : (not (eqb (kindOf r p) 0) && (eqb (linesOf r p) 1 && movesStaged c r stages p a)) ≡ true =
+      ⊎-elim
+      (λ (e : eqb (stageOf c r stages p a) 0 ≡ true). absurd (none (eqb-true _ 0 e)))
+      (λ h. h)
+      (or-cases (eqb (stageOf c r stages p a) 0) _ good) in
+      let some : kindOf r p ≡ 0 → ⊥ = eqb-false _ 0 (not-true _ (and-left _ _ most)) in
+      let one : linesOf r p ≡ 1 = eqb-true _ 1 (search (and-left, and-right)) in
+      let moves : movesStaged c r stages p a ≡ true = search (and-left, and-right) in
+      record {
+        going = some;
+        silent = λ e way quiet. then-holds _ _ (silent-test moves some e way quiet) way;
+        carry = λ e way kind. carry-cases e (then-holds _ _ (carry-test moves some one e way kind) way);
+      }
+    where
+      none : stageOf c r stages p a ≡ 0 → ⊥
+      none z = omega arith
+
+      internal-test : movesStaged c r stages p a ≡ true → (kindOf r p ≡ 0 → ⊥) → (e : ℕ) → opens c r p a e ≡ true → entryKind e ≡ 1 → staysStaged c r stages p a e ≡ true
+      internal-test moves some e way kind =
+          let at = internal-listed c a e kind (sym (internal-opens c r p a e some kind) ∙ way) in
+          rw (at .1) (all-at (λ l. staysStaged c r stages p a (16777216 + l)) (c .count) (letter e 0) (search and-left) (at .0))
+
+      transfer-test : movesStaged c r stages p a ≡ true → (kindOf r p ≡ 0 → ⊥) → (e : ℕ) → opens c r p a e ≡ true → entryKind e ≡ 2 → staysStaged c r stages p a e ≡ true
+      transfer-test moves some e way kind =
+          let at = transfer-listed c a e kind (sym (transfer-opens c r p a e some kind) ∙ way) in
+          rw (at .2)
+          (all-at (λ m. staysStaged c r stages p a (33554432 + letter e 0 + 64 * m)) (c .count) (letter e 1)
+          (all-at (λ l. allBelow (λ m. staysStaged c r stages p a (33554432 + l + 64 * m)) (c .count)) (c .count) (letter e 0) (search (and-left, and-right)) (at .0))
+          (at .1))
+
+      silent-test : movesStaged c r stages p a ≡ true → (kindOf r p ≡ 0 → ⊥) → (e : ℕ) → opens c r p a e ≡ true → (entryKind e ≡ 3 → ⊥) → staysStaged c r stages p a e ≡ true
+      silent-test moves some e way quiet =
+          ⊎-elim (internal-test moves some e way) (⊎-elim (transfer-test moves some e way) (λ (k : entryKind e ≡ 3). absurd (quiet k))) (open-kind c r p a e some way)
+
+      carry-test : movesStaged c r stages p a ≡ true → (kindOf r p ≡ 0 → ⊥) → linesOf r p ≡ 1 → (e : ℕ) → opens c r p a e ≡ true → entryKind e ≡ 3 → falls c r stages p a e ≡ true
+      carry-test moves some one e way kind =
+          let at = carry-listed c r p a e one kind (sym (opens-carry c r p a e some kind) ∙ way) in
+          rw (at .1) (all-at (λ l. falls c r stages p a (50331648 + l)) (c .count) (letter e 0) (search (and-left, and-right)) (at .0))
+
+      carry-cases :
+          (e : ℕ)
+          → (lower (stageOf c r stages (thenOf r p) (makes c r p a e)) (stageOf c r stages p a)
+          || (eqb (kindOf r p) 2 && lower (stageOf c r stages (elseOf r p) (makes c r p a e)) (stageOf c r stages p a)))
+          ≡ true
+          → (lower (stageOf c r stages (thenOf r p) (makes c r p a e)) (stageOf c r stages p a) ≡ true)
+          ⊎ ((kindOf r p ≡ 2) × (lower (stageOf c r stages (elseOf r p) (makes c r p a e)) (stageOf c r stages p a) ≡ true))
+      carry-cases e h =
+          ⊎-elim
+          (λ t. inl t)
+          (λ (t : (eqb (kindOf r p) 2 && lower (stageOf c r stages (elseOf r p) (makes c r p a e)) (stageOf c r stages p a)) ≡ true).
+          inr (eqb-true (kindOf r p) 2 (search and-left), search and-right))
+          (or-cases (lower (stageOf c r stages (thenOf r p) (makes c r p a e)) (stageOf c r stages p a)) (eqb (kindOf r p) 2 && lower (stageOf c r stages (elseOf r p) (makes c r p a e)) (stageOf c r stages p a)) h)
+
+-- a list of stages that passes the test
+pub stages-hold :
+    (c : Cell) (r : Recipe) (stages : List ℕ)
+    → checkCell c ≡ Accepted
+    → checkRecipe r ≡ Accepted
+    → areStages c r stages ≡ true
+    → (p : ℕ) (a : Configuration)
+    → Position c r p a
+    → 0 < stageOf c r stages p a
+    → Staged c r stages p a
+unfolding areStages
+stages-hold c r stages cell-ok recipe-ok good p a here high =
+    let z = sizesOf c r in
+    let Z = fitting c r cell-ok recipe-ok in
+    let m : ℕ = positionOf z p a in
+    let point : pointAt z m ≡ p = point-back z Z p a (here .in-range) in
+    let same : configurationAt z m ≡ a = configuration-back z Z p a (here .in-range) (here .six) (here .eight) in
+    let at : positionStaged c r stages (pointAt z m) (configurationAt z m) ≡ true =
+    all-at (λ n. positionStaged c r stages (pointAt z n) (configurationAt z n)) (z .positions) m good (position-lt z Z p a (here .in-range)) in
+    tested c r stages p a (sym (λ i. positionStaged c r stages (point i) (same i)) ∙ at) high

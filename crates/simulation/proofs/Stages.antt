@@ -1,0 +1,60 @@
+-- A certificate: a stage for each position, which silent moves do not raise and some outcome of each carry lowers, both without
+-- reaching 0. Positions of a stage above 0 are lost.
+-- Assumes nothing.
+use mathlib.Core.Path.{_≡_}
+use mathlib.Core.Bool.{Bool, cond}
+use Prim.Native.Nat.{ℕ, zero, suc, _<_, _≤_}
+use native.Mathlib.Omega.{arith}
+use Rattle.simulation.proofs.Machine.{finish, quiet, carried, Machine, goes, Laws, Way, here, then, Lost, lost}
+use Rattle.simulation.proofs.Lost.{way-valid}
+
+-- an outcome at which a carry leads to a stage above 0 and below n
+pub record Falls (𝓒 : Machine) (stage : 𝓒 .Point → 𝓒 .Conf → ℕ) (p : 𝓒 .Point) (d e : 𝓒 .Conf) (n : ℕ) : Type 0 where
+  pub outcome : Bool
+  pub above : 0 < stage (goes (𝓒 .kind p) p outcome) (cond outcome d e)
+  pub below : stage (goes (𝓒 .kind p) p outcome) (cond outcome d e) < n
+
+pub record Stages (𝓒 : Machine) (stage : 𝓒 .Point → 𝓒 .Conf → ℕ) : Type 0 where
+  pub going : (p : 𝓒 .Point) (a : 𝓒 .Conf) → 𝓒 .Valid p a → 0 < stage p a → 𝓒 .kind p ≡ finish → ⊥
+  pub silent :
+      (p : 𝓒 .Point) (a b : 𝓒 .Conf) (m : 𝓒 .Move)
+      → 𝓒 .Valid p a
+      → 0 < stage p a
+      → 𝓒 .effect p a m ≡ quiet b
+      → (0 < stage p b) × (stage p b ≤ stage p a)
+  pub carry :
+      (p : 𝓒 .Point) (a d e : 𝓒 .Conf) (m : 𝓒 .Move)
+      → 𝓒 .Valid p a
+      → 0 < stage p a
+      → 𝓒 .effect p a m ≡ carried d e
+      → Falls 𝓒 stage p d e (stage p a)
+
+module _ {𝓒 : Machine} {stage : 𝓒 .Point → 𝓒 .Conf → ℕ} (L : Laws 𝓒) (G : Stages 𝓒 stage) where
+  way-staged : {p : 𝓒 .Point} {a b : 𝓒 .Conf} → 𝓒 .Valid p a → 0 < stage p a → Way 𝓒 p a b → (0 < stage p b) × (stage p b ≤ stage p a)
+  way-staged v h (here e) = rw e (h, omega arith)
+  way-staged v h (then m w e) =
+      let i = way-staged v h w in
+      let j = G .silent _ _ _ m (way-valid L v w) (i .0) e in
+      (j .0, omega arith)
+
+  way-falls :
+      {p : 𝓒 .Point} {a b d e : 𝓒 .Conf} {m : 𝓒 .Move}
+      → 𝓒 .Valid p a
+      → 0 < stage p a
+      → Way 𝓒 p a b
+      → 𝓒 .effect p b m ≡ carried d e
+      → Falls 𝓒 stage p d e (stage p a)
+  way-falls v h w k =
+      let i = way-staged v h w in
+      let f = G .carry _ _ _ _ _ (way-valid L v w) (i .0) k in
+      record { outcome = f .outcome; above = f .above; below = omega arith }
+
+  by-stage : (n : ℕ) (p : 𝓒 .Point) (a : 𝓒 .Conf) → 𝓒 .Valid p a → 0 < stage p a → stage p a ≤ n → Lost 𝓒 p a
+  by-stage zero p a v h l = absurd (omega arith)
+  by-stage (suc n) p a v h l =
+      lost (G .going p a v h) (λ b d e m w k. way-falls v h w k .outcome) (λ b d e m w k.
+      let f = way-falls v h w k in
+      by-stage n _ _ (L .carried-valid p b d e m (f .outcome) (way-valid L v w) k) (f .above) (omega arith))
+
+  pub staged-lost : (p : 𝓒 .Point) (a : 𝓒 .Conf) → 𝓒 .Valid p a → 0 < stage p a → Lost 𝓒 p a
+  staged-lost p a v h = by-stage (stage p a) p a v h (omega arith)
