@@ -1,5 +1,7 @@
--- The method over any machine (Machine, Lost, Closed, Sweep, Stages, Counting), the cell and the recipe as one (Instance), what
--- the book does (Booked), rules (Ruling, TableRule), and certificates that the checker computes (Listing, Staged).
+-- The method over any machine (Machine, Lost, Closed, Sweep, Stages, Counting) and the cell and the recipe as one (Instance);
+-- joint steps part by part and as single moves (Paired, Parted, PartedCarries, Singles, Split, Same); what the book does
+-- (Booked), closed tables (Promised), rules (Ruling, TableRule); certificates that the checker computes (Listing, Staged,
+-- Certified, Tabled).
 pub mod Machine
 pub mod Lost
 pub mod Closed
@@ -7,8 +9,17 @@ pub mod Sweep
 pub mod Stages
 pub mod Counting
 pub mod Instance
+pub mod Paired
+pub mod Parted
+pub mod PartedCarries
+pub mod Singles
+pub mod Split
+pub mod Same
 pub mod Booked
+pub mod Promised
 pub mod Ruling
 pub mod TableRule
 pub mod Listing
 pub mod Staged
+pub mod Certified
+pub mod Tabled
