@@ -1,13 +1,12 @@
 -- Positions that a list of stages shows to be lost: what the checker computes of the list is enough.
 -- Assumes nothing.
-use mathlib.Core.Path.{_≡_, refl}
+use mathlib.Core.Path.{_≡_}
 use mathlib.Core.Logic.{⊎-elim}
-use mathlib.Core.Bool.{Bool, true, false, cond}
+use mathlib.Core.Bool.{true, false}
 use mathlib.Core.List.{List}
 use Prim.Native.Nat.{ℕ, _<_, _≤_}
-use native.Mathlib.Omega.{arith}
-use lib.Dec.{eqb, ltb, leb}
-use borrow.Author.Tests.{ne-eqb, ltb-true, leb-true}
+use lib.Dec.{ltb, leb}
+use borrow.Author.Tests.{ltb-true, leb-true}
 use Rattle.refusals.specs.declared.Verdict.the-variants.{Accepted}
 use Rattle.refusals.proofs.Verdicts.{and-left, and-right}
 use Rattle.cell.specs.declared.Cell.{Cell}
@@ -15,11 +14,11 @@ use Rattle.cell.specs.Rules.{checkCell}
 use Rattle.recipe.specs.declared.Recipe.{Recipe}
 use Rattle.recipe.specs.Rules.{checkRecipe}
 use Rattle.positions.specs.declared.Configuration.{Configuration}
-use Rattle.steps.specs.Lines.{kindOf, thenOf, elseOf}
+use Rattle.steps.specs.Lines.{thenOf, elseOf}
 use Rattle.steps.specs.Single.{makes}
 use Rattle.simulation.specs.Simulation.{Position}
-use Rattle.simulation.proofs.Machine.{perform, check, goes, Lost}
-use Rattle.simulation.proofs.Instance.{kindIn, machineOf, IsCarried, read-quiet, read-carried, finish-kind, laws}
+use Rattle.simulation.proofs.Machine.{goes, Lost}
+use Rattle.simulation.proofs.Instance.{kindIn, machineOf, IsCarried, read-quiet, read-carried, finish-kind, goes-then, goes-else, laws}
 use Rattle.simulation.proofs.Stages.{Falls, Stages, staged-lost}
 use Rattle.simulation.proofs.Staged.{stageOf, noMore, lower, areStages, Staged, stages-hold}
 
@@ -30,19 +29,6 @@ no-more s t e = (ltb-true 0 s (and-left (ltb 0 s) (leb s t) e), leb-true s t (an
 is-lower : (s t : ℕ) → lower s t ≡ true → (0 < s) × (s < t)
 unfolding lower
 is-lower s t e = (ltb-true 0 s (and-left (ltb 0 s) (ltb s t) e), ltb-true s t (and-right (ltb 0 s) (ltb s t) e))
-
--- where a carry leads at outcome 1, and a test at outcome 0
-goes-then : (r : Recipe) (p : ℕ) → (kindOf r p ≡ 0 → ⊥) → goes (kindIn r p) p true ≡ thenOf r p
-unfolding kindIn
-goes-then r p some = rw (ne-eqb (kindOf r p) 0 some) (decide (eqb (kindOf r p) 1))
-  where
-    decide : (b : Bool) → goes (cond b (perform (thenOf r p)) (check (thenOf r p) (elseOf r p))) p true ≡ thenOf r p
-    decide true = refl
-    decide false = refl
-
-goes-else : (r : Recipe) (p : ℕ) → kindOf r p ≡ 2 → goes (kindIn r p) p false ≡ elseOf r p
-unfolding kindIn
-goes-else r p test = rw test
 
 module _ (c : Cell) (r : Recipe) (stages : List ℕ) (cell-ok : checkCell c ≡ Accepted) (recipe-ok : checkRecipe r ≡ Accepted) (good : areStages c r stages ≡ true) where
   carry-falls :

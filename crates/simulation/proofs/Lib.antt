@@ -19,6 +19,8 @@ pub mod Booked
 pub mod Promised
 pub mod Ruling
 pub mod TableRule
+pub mod Played
+pub mod Planning
 pub mod Listing
 pub mod Staged
 pub mod Certified

@@ -74,54 +74,54 @@ module _
     (cell-ok : checkCell c ≡ Accepted)
     (recipe-ok : checkRecipe r ≡ Accepted)
     (good : isClosed c r table ranks ≡ true)
-    where
-  closes : (p : ℕ) (a : Configuration) → Position c r p a → (entryOf c r table p a ≡ 0 → ⊥) → Closes c r table ranks p a
-  unfolding isClosed closedAt
-  closes p a valid some =
-      let z = sizesOf c r in
-      let Z = fitting c r cell-ok recipe-ok in
-      let m : ℕ = positionOf z p a in
-      let point : pointAt z m ≡ p = point-back z Z p a (valid .in-range) in
-      let same : configurationAt z m ≡ a = configuration-back z Z p a (valid .in-range) (valid .six) (valid .eight) in
-      let at : closedAt c r table ranks (pointAt z m) (configurationAt z m) ≡ true =
-            all-at (λ n. closedAt c r table ranks (pointAt z n) (configurationAt z n)) (z .positions) m good (position-lt z Z p a (valid .in-range)) in
-      let here : closedAt c r table ranks p a ≡ true = sym (λ i. closedAt c r table ranks (point i) (same i)) ∙ at in
-      let all : (opens c r p a (entryOf c r table p a) && (ltb (rankOf c r ranks p a) (z .joint * z .ways) && leadsOn c r table ranks p a (entryOf c r table p a))) ≡ true =
-            second (eqb (entryOf c r table p a) 0) _ here (ne-eqb _ 0 some) in
-      record { opened = search and-left; ranked = ltb-true _ _ (search (and-left, and-right)); on = search (and-left, and-right) }
+  where
+    closes : (p : ℕ) (a : Configuration) → Position c r p a → (entryOf c r table p a ≡ 0 → ⊥) → Closes c r table ranks p a
+    unfolding isClosed closedAt
+    closes p a valid some =
+        let z = sizesOf c r in
+        let Z = fitting c r cell-ok recipe-ok in
+        let m : ℕ = positionOf z p a in
+        let point : pointAt z m ≡ p = point-back z Z p a (valid .in-range) in
+        let same : configurationAt z m ≡ a = configuration-back z Z p a (valid .in-range) (valid .six) (valid .eight) in
+        let at : closedAt c r table ranks (pointAt z m) (configurationAt z m) ≡ true =
+        all-at (λ n. closedAt c r table ranks (pointAt z n) (configurationAt z n)) (z .positions) m good (position-lt z Z p a (valid .in-range)) in
+        let here : closedAt c r table ranks p a ≡ true = sym (λ i. closedAt c r table ranks (point i) (same i)) ∙ at in
+        let all : (opens c r p a (entryOf c r table p a) && (ltb (rankOf c r ranks p a) (z .joint * z .ways) && leadsOn c r table ranks p a (entryOf c r table p a))) ≡ true =
+        second (eqb (entryOf c r table p a) 0) _ here (ne-eqb _ 0 some) in
+        record { opened = search and-left; ranked = ltb-true _ _ (search (and-left, and-right)); on = search (and-left, and-right) }
 
-  module _ (p : ℕ) (a : Configuration) (valid : Position c r p a) (some : entryOf c r table p a ≡ 0 → ⊥) (going : kindOf r p ≡ 0 → ⊥) where
-    silent-leads :
-        (entryKind (entryOf c r table p a) ≡ 3 → ⊥)
-        → (hasEntry c r table p (makes c r p a (entryOf c r table p a)) && ltb (rankOf c r ranks p (makes c r p a (entryOf c r table p a))) (rankOf c r ranks p a)) ≡ true
-    unfolding leadsOn
-    silent-leads silent = let on = closes p a valid some .on in rw (ne-eqb (kindOf r p) 0 going, ne-eqb (entryKind (entryOf c r table p a)) 3 silent) at on
+    module _ (p : ℕ) (a : Configuration) (valid : Position c r p a) (some : entryOf c r table p a ≡ 0 → ⊥) (going : kindOf r p ≡ 0 → ⊥) where
+      silent-leads :
+          (entryKind (entryOf c r table p a) ≡ 3 → ⊥)
+          → (hasEntry c r table p (makes c r p a (entryOf c r table p a)) && ltb (rankOf c r ranks p (makes c r p a (entryOf c r table p a))) (rankOf c r ranks p a)) ≡ true
+      unfolding leadsOn
+      silent-leads silent = let on = closes p a valid some .on in rw (ne-eqb (kindOf r p) 0 going, ne-eqb (entryKind (entryOf c r table p a)) 3 silent) at on
 
-    carry-leads :
-        entryKind (entryOf c r table p a) ≡ 3
-        → (hasEntry c r table (leadsTo r p (entryOf c r table p a) 1) (makes c r p a (entryOf c r table p a))
-        && hasEntry c r table (leadsTo r p (entryOf c r table p a) 0) (makes c r p a (entryOf c r table p a)))
-        ≡ true
-    unfolding leadsOn
-    carry-leads carries = let on = closes p a valid some .on in rw (ne-eqb (kindOf r p) 0 going, eq-eqb (entryKind (entryOf c r table p a)) 3 carries) at on
+      carry-leads :
+          entryKind (entryOf c r table p a) ≡ 3
+          → (hasEntry c r table (leadsTo r p (entryOf c r table p a) 1) (makes c r p a (entryOf c r table p a))
+          && hasEntry c r table (leadsTo r p (entryOf c r table p a) 0) (makes c r p a (entryOf c r table p a)))
+          ≡ true
+      unfolding leadsOn
+      carry-leads carries = let on = closes p a valid some .on in rw (ne-eqb (kindOf r p) 0 going, eq-eqb (entryKind (entryOf c r table p a)) 3 carries) at on
 
-    carry-outcome :
-        entryKind (entryOf c r table p a) ≡ 3
-        → (outcome : ℕ)
-        → outcome ≤ 1
-        → hasEntry c r table (leadsTo r p (entryOf c r table p a) outcome) (makes c r p a (entryOf c r table p a)) ≡ true
-    carry-outcome carries zero low = let both = carry-leads carries in search and-right
-    carry-outcome carries (suc zero) low = let both = carry-leads carries in search and-left
-    carry-outcome carries (suc (suc n)) low = absurd (omega arith)
+      carry-outcome :
+          entryKind (entryOf c r table p a) ≡ 3
+          → (outcome : ℕ)
+          → outcome ≤ 1
+          → hasEntry c r table (leadsTo r p (entryOf c r table p a) outcome) (makes c r p a (entryOf c r table p a)) ≡ true
+      carry-outcome carries zero low = let both = carry-leads carries in search and-right
+      carry-outcome carries (suc zero) low = let both = carry-leads carries in search and-left
+      carry-outcome carries (suc (suc n)) low = absurd (omega arith)
 
-  pub closed-table : ClosedTable c r table (rankOf c r ranks)
-  closed-table =
-      record {
-        opened = λ p a valid some. closes p a valid some .opened;
-        silent-on =
-            λ p a valid some going silent.
-            let both = silent-leads p a valid some going silent in
-            (entry-there c r table p _ (search and-left), ltb-true _ _ (search and-right));
-        carry-on = λ p a valid some going carries outcome low. entry-there c r table _ _ (carry-outcome p a valid some going carries outcome low);
-        ranked = λ p a valid some. closes p a valid some .ranked;
-      }
+    pub closed-table : ClosedTable c r table (rankOf c r ranks)
+    closed-table =
+        record {
+          opened = λ p a valid some. closes p a valid some .opened;
+          silent-on =
+              λ p a valid some going silent.
+              let both = silent-leads p a valid some going silent in
+              (entry-there c r table p _ (search and-left), ltb-true _ _ (search and-right));
+          carry-on = λ p a valid some going carries outcome low. entry-there c r table _ _ (carry-outcome p a valid some going carries outcome low);
+          ranked = λ p a valid some. closes p a valid some .ranked;
+        }
