@@ -1,12 +1,12 @@
 -- In a joint step each out has one in on its port, and each in one out. Assumes nothing.
-use mathlib.Core.Path.{_≡_, refl, sym, _∙_}
-use mathlib.Core.Bool.{Bool, true, false, cond, _&&_}
+use mathlib.Core.Path.{_≡_, refl}
+use mathlib.Core.Bool.{Bool, true, false, cond}
 use Prim.Native.Nat.{ℕ, zero, suc, _<_, _≤_}
 use native.Mathlib.Omega.{arith}
-use lib.Dec.{eqb, leb}
+use lib.Dec.{eqb}
 use borrow.Author.Tests.{eqb-true, eqb-false, eq-eqb, leb-true, le-leb}
 use Rattle.refusals.specs.declared.Verdict.the-variants.{Accepted}
-use Rattle.refusals.specs.Search.{firstBelow, allBelow, countBelow}
+use Rattle.refusals.specs.Search.{allBelow, countBelow}
 use Rattle.refusals.proofs.Scan.{first-one}
 use Rattle.refusals.proofs.Every.{all-by, all-at, count-none, count-many}
 use Rattle.refusals.proofs.Verdicts.{and-left, and-right}
@@ -14,7 +14,7 @@ use Rattle.cell.specs.declared.Cell.{Cell}
 use Rattle.cell.specs.Rules.{checkCell}
 use Rattle.positions.specs.declared.Configuration.{Configuration}
 use Rattle.steps.specs.Lines.{actOf, argOf}
-use Rattle.steps.specs.Joint.{Choice, takes, actsOn, howMany, portFits, isStep, receiver}
+use Rattle.steps.specs.Joint.{Choice, actsOn, howMany, portFits, isStep, receiver}
 use Rattle.steps.proofs.Ready.{both, line-is, arg-low, may-low, step-may}
 use Rattle.steps.proofs.Ports.{of-two}
 
@@ -24,7 +24,7 @@ pub record Found (f : ℕ → Bool) (n : ℕ) : Type 0 where
   pub low : at < n
   pub holds : f at ≡ true
 
--- as many numbers pass as one may be found, and as one only is
+-- what it says of the numbers that pass how many they are
 module _ (f : ℕ → Bool) where
   found : (n : ℕ) → 1 ≤ countBelow f n → Found f n
   unfolding countBelow
@@ -76,6 +76,7 @@ module _ (f : ℕ → Bool) where
       decide before true here = omega (arith, count-none f n (other here))
       decide before false here = before
 
+-- two counts of at most one, of which neither is zero alone
 alike : (s t : ℕ) → s ≤ 1 → t ≤ 1 → (1 ≤ s → 1 ≤ t) → (1 ≤ t → 1 ≤ s) → s ≡ t
 alike zero zero s-most t-most there back = refl
 alike zero (suc t) s-most t-most there back = absurd (omega (arith, back (omega arith)))
@@ -100,7 +101,9 @@ module _ (c : Cell) (x : Choice) where
           let outs : ℕ → Bool = λ k. actsOn c 3 port (x k) in
           let in-few : countBelow ins 6 ≤ 1 = few ins 6 (paired .in-one port) in
           let out-few : countBelow outs 6 ≤ 1 = few outs 6 (paired .out-one port) in
-          both _ _ (eq-eqb _ _ (alike (countBelow ins 6) (countBelow outs 6) in-few out-few (λ some. counted outs 6 (let one = found ins 6 some in paired .out-for port (one .at) (one .low) (one .holds))) (λ some. counted ins 6 (let one = found outs 6 some in paired .in-for port (one .at) (one .low) (one .holds))))) (le-leb _ _ out-few)
+          let out-there : 1 ≤ countBelow ins 6 → 1 ≤ countBelow outs 6 = λ some. counted outs 6 (let one = found ins 6 some in paired .out-for port (one .at) (one .low) (one .holds)) in
+          let in-there : 1 ≤ countBelow outs 6 → 1 ≤ countBelow ins 6 = λ some. counted ins 6 (let one = found outs 6 some in paired .in-for port (one .at) (one .low) (one .holds)) in
+          both _ _ (eq-eqb _ _ (alike (countBelow ins 6) (countBelow outs 6) in-few out-few out-there in-there)) (le-leb _ _ out-few)
 
   -- the receiver takes the in
   pub receives : Paired c x → (port i : ℕ) → i < 6 → actsOn c 2 port (x i) ≡ true → receiver c x port ≡ i

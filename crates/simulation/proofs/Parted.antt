@@ -1,14 +1,13 @@
 -- A port-closed part of a joint step, and then the rest of it, is open and ends in the same configuration.
 -- Assumes nothing.
 use mathlib.Core.Path.{_≡_, refl, sym, ap, _∙_}
-use mathlib.Core.Bool.{Bool, true, false, cond, not, _&&_}
+use mathlib.Core.Bool.{Bool, true, false, cond, not}
 use mathlib.Core.List.{List}
 use Prim.Native.Nat.{ℕ, zero, suc, _<_, _≤_}
 use native.Mathlib.Omega.{arith}
 use lib.Dec.{eqb}
-use borrow.Author.Tests.{eqb-true, eq-eqb}
+use borrow.Author.Tests.{eq-eqb}
 use Rattle.refusals.specs.declared.Verdict.the-variants.{Accepted}
-use Rattle.refusals.specs.Search.{tabulate}
 use Rattle.refusals.proofs.Every.{all-by, all-at, any-none}
 use Rattle.refusals.proofs.Listed.{tabulate-at, tabulate-same}
 use Rattle.refusals.proofs.Verdicts.{and-left}
@@ -16,9 +15,9 @@ use Rattle.cell.specs.declared.Cell.{Cell}
 use Rattle.cell.specs.Rules.{checkCell}
 use Rattle.positions.specs.declared.Configuration.{Configuration}
 use Rattle.steps.specs.Lines.{actOf, argOf, stateOf, placeOf}
-use Rattle.steps.specs.Joint.{Choice, rests, mayDo, acts, actsOn, isStep, isSilent, stateAfter, receiver, handed, placeAfter, after}
+use Rattle.steps.specs.Joint.{Choice, rests, mayDo, acts, actsOn, isStep, isSilent, stateAfter, handed, placeAfter, after}
 use Rattle.steps.proofs.Ready.{both}
-use Rattle.simulation.proofs.Paired.{Found, Paired, paired-fits, receives, step-paired}
+use Rattle.simulation.proofs.Paired.{Paired, paired-fits, receives, step-paired}
 
 -- a configuration by its states and its places
 pub join : {s t p q : List ℕ} → s ≡ t → p ≡ q → _≡_ {A = Configuration} (record { state = s; place = p }) (record { state = t; place = q })
@@ -144,7 +143,8 @@ part-keeps c x s k e = rw (part-out x s k e)
 negated : (s : ℕ → Bool) (k : ℕ) → s k ≡ true → not (s k) ≡ false
 negated s k e = rw e
 
-may-same : (c : Cell) (a b : Configuration) (k u : ℕ) → stateOf a k ≡ stateOf b k → mayDo c a k u ≡ true → mayDo c b k u ≡ true
+-- what a resource may do depends on its state alone
+pub may-same : (c : Cell) (a b : Configuration) (k u : ℕ) → stateOf a k ≡ stateOf b k → mayDo c a k u ≡ true → mayDo c b k u ≡ true
 unfolding mayDo
 may-same c a b k zero same may = refl
 may-same c a b k (suc l) same may = rw (← same) may

@@ -12,8 +12,6 @@ use Rattle.recipe.specs.declared.Recipe.{Recipe}
 use Rattle.recipe.specs.Rules.{checkRecipe}
 use Rattle.recipe.proofs.Accepted.{each-accepts, line-in-range}
 use Rattle.positions.specs.declared.Configuration.{Configuration}
-use Rattle.positions.specs.Sizes.{sizesOf}
-use Rattle.positions.specs.Rules.{isPosition}
 use Rattle.steps.specs.Lines.{firstLineOf, kindOf, thenOf, elseOf}
 use Rattle.steps.specs.Joint.{Choice, isStep, isSilent, after}
 use Rattle.steps.specs.Carry.{carries, afterCarry}

@@ -1,14 +1,13 @@
 -- A silent joint step is a path of single moves, and one that carries a point is such a path and a carry.
 -- Assumes nothing.
 use mathlib.Core.Path.{_≡_, refl, sym, ap, _∙_}
-use mathlib.Core.Bool.{Bool, true, false, cond, not, _&&_, _||_}
+use mathlib.Core.Bool.{Bool, true, false, not, _&&_, _||_}
 use Prim.Native.Nat.{ℕ, zero, suc, _+_, _*_, _<_, _≤_}
 use native.Mathlib.Omega.{arith}
 use lib.ListN.{length}
 use lib.Dec.{eqb}
 use borrow.Author.Tests.{eqb-true, eqb-false, eq-eqb, ne-eqb, not-true}
 use Rattle.refusals.specs.declared.Verdict.the-variants.{Accepted}
-use Rattle.refusals.specs.Search.{anyBelow, tabulate}
 use Rattle.refusals.proofs.Every.{any-not}
 use Rattle.refusals.proofs.Listed.{tabulate-is}
 use Rattle.refusals.proofs.Verdicts.{and-left, and-right}
@@ -27,10 +26,10 @@ use Rattle.steps.proofs.Entries.{EntryFor, internal-entry, transfer-entry}
 use Rattle.steps.proofs.CarryEntries.{CarryFor, carry-entry}
 use Rattle.steps.proofs.Stays.{places-most}
 use Rattle.simulation.specs.Simulation.{Position}
-use Rattle.simulation.proofs.Paired.{Found, Paired, step-paired}
+use Rattle.simulation.proofs.Paired.{Paired, step-paired}
 use Rattle.simulation.proofs.Parted.{join, part, rest, Closed, part-out, part-rests, rest-in, rest-out, part-silent, part-step, rest-step, parted-after}
 use Rattle.simulation.proofs.PartedCarries.{NoOperation, carry-part-step, carry-part-silent, rest-carries, parted-carry}
-use Rattle.simulation.proofs.Singles.{Single, Singly, stay, move, SingleCarry, lines-at, singly-stays, carry-then, carry-else}
+use Rattle.simulation.proofs.Singles.{Singly, stay, move, SingleCarry, lines-at, singly-stays, carry-then, carry-else}
 
 -- all resources but k and i
 unfoldable allBut : ℕ → ℕ → ℕ → Bool
@@ -165,7 +164,11 @@ module _ (c : Cell) (r : Recipe) (p : ℕ) (ok : checkCell c ≡ Accepted) (fine
         let closed : Closed c x s = closed-one c x k l chosen internal in
         let b : Configuration = after c (part x s) a in
         let mid : Position c r p b = singly-stays c r p ok fine here path in
-        let entry : EntryFor c r p b (16777216 + l) (after c (rest x s) b) = internal-entry c r p b (rest x s) ok (rest-step c ok a x step s closed) some (mid .six) (mid .eight) (most b mid) k l low (rest-out x s k (but-first k k) ∙ chosen) internal (λ i less ne. rest-in x s i (but-other k k i ne ne)) in
+        let takes-it : rest x s k ≡ takes l = rest-out x s k (but-first k k) ∙ chosen in
+        let others : (i : ℕ) → i < 6 → (i ≡ k → ⊥) → rest x s i ≡ rests = λ i less ne. rest-in x s i (but-other k k i ne ne) in
+        let may : isStep c b (rest x s) ≡ true = rest-step c ok a x step s closed in
+        let entry : EntryFor c r p b (16777216 + l) (after c (rest x s) b) =
+        internal-entry c r p b (rest x s) ok may some (mid .six) (mid .eight) (most b mid) k l low takes-it internal others in
         move path (record {
           entry = 16777216 + l;
           silent = λ (z : entryKind (16777216 + l) ≡ 3). omega (arith, there k l low chosen);
@@ -190,7 +193,12 @@ module _ (c : Cell) (r : Recipe) (p : ℕ) (ok : checkCell c ≡ Accepted) (fine
         let closed : Closed c x s = closed-two c x paired port k i k-low i-low out into in
         let b : Configuration = after c (part x s) a in
         let mid : Position c r p b = singly-stays c r p ok fine here path in
-        let entry : EntryFor c r p b (33554432 + send .line + 64 * get .line) (after c (rest x s) b) = transfer-entry c r p b (rest x s) ok (rest-step c ok a x step s closed) some (mid .six) (mid .eight) (most b mid) k i (send .line) (get .line) k-low i-low (rest-out x s k (but-first k i) ∙ send .chosen) (rest-out x s i (but-second k i) ∙ get .chosen) (send .acted) (get .acted) (λ n less k-not i-not. rest-in x s n (but-other k i n k-not i-not)) in
+        let sends : rest x s k ≡ takes (send .line) = rest-out x s k (but-first k i) ∙ send .chosen in
+        let gets : rest x s i ≡ takes (get .line) = rest-out x s i (but-second k i) ∙ get .chosen in
+        let others : (n : ℕ) → n < 6 → (n ≡ k → ⊥) → (n ≡ i → ⊥) → rest x s n ≡ rests = λ n less k-not i-not. rest-in x s n (but-other k i n k-not i-not) in
+        let may : isStep c b (rest x s) ≡ true = rest-step c ok a x step s closed in
+        let entry : EntryFor c r p b (33554432 + send .line + 64 * get .line) (after c (rest x s) b) =
+        transfer-entry c r p b (rest x s) ok may some (mid .six) (mid .eight) (most b mid) k i (send .line) (get .line) k-low i-low sends gets (send .acted) (get .acted) others in
         move path (record {
           entry = 33554432 + send .line + 64 * get .line;
           silent = λ (z : entryKind (33554432 + send .line + 64 * get .line) ≡ 3). omega (arith, there k (send .line) k-low (send .chosen), there i (get .line) i-low (get .chosen));
@@ -311,9 +319,12 @@ module _
         let closed : Closed c x s = calm-closed c x in
         let none : NoOperation c x s = λ k low e. calm-not c x k e in
         let b : Configuration = after c (part x s) a in
-        let path : Singly c r p a b = silent-split c r p ok fine some a here (part x s) (carry-part-step c ok r p a x ls carrying s closed none) (carry-part-silent c ok r p a x ls carrying s closed none) in
+        let path : Singly c r p a b = silent-split c r p ok fine some a here (part x s) (carry-part-step c ok r p a x ls carrying s closed) (carry-part-silent c ok r p a x ls carrying s closed none) in
         let mid : Position c r p b = singly-stays c r p ok fine here path in
-        let entry : CarryFor c r p b ls (afterCarry c r p (rest x s) ls b) = carry-entry c r p b (rest x s) ls ok (rest-carries c ok r p a x ls carrying s closed none) (lines-at c r p ok fine a here .few) (λ k l low chosen. calm-rest c x k l chosen) (mid .six) (mid .eight) (places-most c r p b ok (mid .in-range)) in
+        let left : carries c r p (rest x s) ls b ≡ true = rest-carries c ok r p a x ls carrying s closed none in
+        let alone : (k l : ℕ) → k < 6 → rest x s k ≡ takes l → actOf c l ≡ 1 = λ k l low chosen. calm-rest c x k l chosen in
+        let entry : CarryFor c r p b ls (afterCarry c r p (rest x s) ls b) =
+        carry-entry c r p b (rest x s) ls ok left (lines-at c r p ok fine a here .few) alone (mid .six) (mid .eight) (places-most c r p b ok (mid .in-range)) in
         record {
           before = b;
           singly = path;

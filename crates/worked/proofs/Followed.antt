@@ -18,7 +18,7 @@ use Rattle.steps.specs.Single.{ready, lineReady, internalOpen, transferOpen, li
 use Rattle.run.specs.Calls.{entryAt, checkTable, rule17, rule18, rule19, moveAnswer, nextMove, nextRun, reportAnswer, reportOf}
 use Rattle.run.specs.Book.{Call, asks, reports, opened, byTable, atEnd, isOpen, refusalOf, setTo, movedTo, configurationAfter, pointAfter, made, isAccepted, turned, noted, answer, moments, answers, issuedBy, issued}
 use Rattle.run.specs.Promises.{Promises, runAfter, runAnswer, runAnswers, every, agree, rightly, refusedRightly, neverShut, everyIssue, wasOpen, foundParts, carriedPoint, fewSilent}
-use Rattle.worked.specs.Moves.{filled, benchCell, benchRecipe, entryOf, benchTable}
+use Rattle.worked.specs.Moves.{filled, benchCell, benchRecipe, entryAt as benchEntry, benchTable}
 
 -- asked and glued, passed on, an outcome that is none, a failed test, taken out; glued again, passed on, a good test, left;
 -- asked at the end, and reports that are refused there
@@ -39,7 +39,7 @@ unfolding firstBelow anyBelow allBelow countBelow greatestBelow tabulate before 
     carryOpen silentOpen opens statesAfter linesTaken handOver transferred carried makes leadsTo entryAt checkTable rule17 rule18 rule19 moveAnswer nextMove nextRun
     reportAnswer reportOf opened byTable atEnd isOpen refusalOf setTo movedTo configurationAfter pointAfter made isAccepted turned noted answer moments answers issuedBy issued
     refusalIn runAfter runAnswer runAnswers every agree rightly refusedRightly neverShut everyIssue wasOpen foundParts carriedPoint fewSilent filled
-    benchCell benchRecipe entryOf benchTable
+    benchCell benchRecipe benchEntry benchTable
 followed =
     record {
       same-answers = refl;

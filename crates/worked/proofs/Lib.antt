@@ -1,6 +1,7 @@
--- The worked examples marked ‡: the files, the moves, the limit and a list of calls, and the one table of all of them.
+-- The worked examples marked ‡: the files, the moves, the limit, a list of calls and the plan, and the one table of all of them.
 mod Files
 mod Moves
 mod Limit
 mod Followed
+mod Plans
 pub mod Table

@@ -1,9 +1,9 @@
 -- The moves that `walk` prints in the bench example, the table that holds them, and the example at the limit. Assumes nothing.
-use mathlib.Core.Bool.{cond}
+use mathlib.Core.Bool.{cond, _||_}
 use mathlib.Core.List.{List, [], _∷_, _++_}
 use Prim.Native.Nat.{ℕ, _+_}
 use lib.ListN.{replicate}
-use lib.Dec.{eqb}
+use lib.Dec.{eqb, leb}
 use Rattle.refusals.specs.Search.{tabulate}
 use Rattle.cell.specs.declared.Cell.{Cell}
 use Rattle.recipe.specs.declared.Recipe.{Recipe}
@@ -52,15 +52,21 @@ next position entry outcome =
     (positionOf benchSizes (leadsTo benchRecipe p entry outcome) (makes benchCell benchRecipe p a entry))
     position
 
--- the bench example's moves: what `walk` prints, the move after the test's outcome 0, and the end
-unfoldable pub entryOf : ℕ → ℕ
-entryOf m =
-    cond (eqb m 0) 50331648 (cond (eqb m 22) 33554561 (cond (eqb m 26) 50331651
-    (cond (eqb m 50) 50331652 (cond (eqb m 68) 50331652 (cond (eqb m 72) 67108864 0)))))
+-- the bench example's plan: the moves that `walk` prints, those at other positions from which the recipe can be built, and
+-- the entry of an end at each position of point 4, the numbers from 72 on
+unfoldable pub entryAt : ℕ → ℕ
+entryAt m =
+    cond (eqb m 0) 50331648
+    (cond (eqb m 22 || eqb m 23) 33554561
+    (cond (eqb m 26) 50331651 (cond (eqb m 50 || (eqb m 53 || eqb m 68)) 50331652 (cond (leb 72 m) 67108864 0))))
 
 -- a table of M entries that holds them
 unfoldable pub benchTable : List ℕ
-benchTable = tabulate 90 entryOf
+benchTable = tabulate 90 entryAt
+
+-- and how many silent moves each is away from a carry
+unfoldable pub benchRanks : List ℕ
+benchRanks = tabulate 90 (λ m. cond (eqb m 22 || eqb m 23) 1 0)
 
 -- "R 3, four states each": three stations, of which the first goes to the given state and the others to 3
 unfoldable pub limitCell : ℕ → Cell
