@@ -1,6 +1,6 @@
 -- The promises of demand 3 for a list of calls on the bench example's moves: a failed test, the rework, a good test, the end,
 -- and refused calls between them. Computed. Assumes nothing.
-use mathlib.Core.Path.{_≡_, refl}
+use mathlib.Core.Path.{refl}
 use mathlib.Core.List.{List, [], _∷_}
 use Rattle.refusals.specs.Search.{firstBelow, anyBelow, allBelow, countBelow, greatestBelow, tabulate}
 use Rattle.refusals.specs.Verdict.{before, lineVerdict, firstLine, noLine, rule3, refusalIn}
@@ -18,7 +18,7 @@ use Rattle.steps.specs.Single.{ready, lineReady, internalOpen, transferOpen, li
 use Rattle.run.specs.Calls.{entryAt, checkTable, rule17, rule18, rule19, moveAnswer, nextMove, nextRun, reportAnswer, reportOf}
 use Rattle.run.specs.Book.{Call, asks, reports, opened, byTable, atEnd, isOpen, refusalOf, setTo, movedTo, configurationAfter, pointAfter, made, isAccepted, turned, noted, answer, moments, answers, issuedBy, issued}
 use Rattle.run.specs.Promises.{Promises, runAfter, runAnswer, runAnswers, every, agree, rightly, refusedRightly, neverShut, everyIssue, wasOpen, foundParts, carriedPoint, fewSilent}
-use Rattle.worked.specs.Moves.{filled, benchCell, benchRecipe, entryAt as benchEntry, benchTable}
+use Rattle.worked.specs.Moves.{filled, benchCell, benchRecipe, benchEntry, benchTable}
 
 -- asked and glued, passed on, an outcome that is none, a failed test, taken out; glued again, passed on, a good test, left;
 -- asked at the end, and reports that are refused there

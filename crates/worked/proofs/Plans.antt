@@ -2,7 +2,7 @@
 use mathlib.Core.Path.{_≡_, refl, sym, ap, _∙_}
 use mathlib.Core.Bool.{Bool, true, false, cond, not, _&&_, _||_}
 use mathlib.Core.List.{List, [], _∷_}
-use Prim.Native.Nat.{ℕ, _<_, _≤_}
+use Prim.Native.Nat.{ℕ, _<_}
 use native.Mathlib.Decide.{ℕ-discrete}
 use native.Mathlib.Omega.{arith}
 use lib.ListN.{length, getD}
@@ -40,7 +40,7 @@ use Rattle.simulation.proofs.Tabled.{rankOf, hasEntry, leadsOn, closedAt, isClo
 use Rattle.simulation.proofs.Staged.{stageOf, noMore, lower, staysStaged, falls, movesStaged, positionStaged, areStages}
 use Rattle.simulation.proofs.Certified.{stages-lost}
 use Rattle.simulation.proofs.Planning.{planned, lost-not}
-use Rattle.worked.specs.Moves.{filled, benchCell, benchRecipe, entryAt as benchEntry, benchTable, benchRanks}
+use Rattle.worked.specs.Moves.{filled, benchCell, benchRecipe, benchEntry, benchTable, benchRanks}
 use Rattle.worked.specs.Plans.{benchStages, deadRecipe, deadStages, endRecipe}
 
 -- what is computed

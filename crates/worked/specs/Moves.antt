@@ -54,15 +54,15 @@ next position entry outcome =
 
 -- the bench example's plan: the moves that `walk` prints, those at other positions from which the recipe can be built, and
 -- the entry of an end at each position of point 4, the numbers from 72 on
-unfoldable pub entryAt : ℕ → ℕ
-entryAt m =
+unfoldable pub benchEntry : ℕ → ℕ
+benchEntry m =
     cond (eqb m 0) 50331648
     (cond (eqb m 22 || eqb m 23) 33554561
     (cond (eqb m 26) 50331651 (cond (eqb m 50 || (eqb m 53 || eqb m 68)) 50331652 (cond (leb 72 m) 67108864 0))))
 
 -- a table of M entries that holds them
 unfoldable pub benchTable : List ℕ
-benchTable = tabulate 90 entryAt
+benchTable = tabulate 90 benchEntry
 
 -- and how many silent moves each is away from a carry
 unfoldable pub benchRanks : List ℕ
