@@ -54,7 +54,6 @@ pub record Computed : Type 0 where
   -- every position without an entry has a stage
   rest : allBelow (λ m. not (eqb (getD benchTable m 0) 0) || ltb 0 (getD benchStages m 0)) 90 ≡ true
   entries : length benchTable ≡ 90
-  in-range : isPosition (sizesOf benchCell benchRecipe) 0 start ≡ true
   begun : entryOf benchCell benchRecipe benchTable 0 start ≡ 50331648
   dead-passes : recipe.checkRecipe deadRecipe ≡ Accepted
   pub dead-sized : checkSizes benchCell deadRecipe ≡ Accepted
@@ -101,7 +100,6 @@ computed =
       staged = refl;
       rest = refl;
       entries = refl;
-      in-range = refl;
       begun = refl;
       dead-passes = refl;
       dead-sized = refl;
@@ -123,9 +121,6 @@ computed =
       end-sized = refl;
       end-ends = refl;
     }
-
-starts : Position benchCell benchRecipe 0 start
-starts = record { in-range = computed .in-range; six = computed .six; eight = computed .eight }
 
 passes : (x y : Bool) → (not x || y) ≡ true → x ≡ true → y ≡ true
 passes true y e h = e
@@ -150,7 +145,6 @@ bench-planned =
     (omega (arith, computed .positions, computed .entries))
     (closed-table benchCell benchRecipe benchTable benchRanks (computed .cell-passes) (computed .recipe-passes) (computed .closed))
     zeros
-    starts
     (λ e zero. omega (arith, computed .begun))
     (λ e. cc)
     refl
