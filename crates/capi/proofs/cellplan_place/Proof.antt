@@ -36,9 +36,11 @@ add-result c = search needs
 returns : tie.Need-returns
 unfolding placeCode
 returns c =
+    let at-get-run = c .before .before .before .before .before in
+    let start = at-get-run .before .before .before .before in
     let answer = c .before .before .place .result in
     ap (λ (n : ℕ). n * 256 + answer .place) (c .before .refusal-number .ensures)
-    ∙ ap placeCode (c .before .before .place .ensures ∙ (λ i. placeOf (c .before .before .before .before .get-cell .ensures i) (c .before .before .before .get-recipe .ensures i) (c .before .before .before .before .before .get-run .ensures i) (c .before .before .before .before .before .before .before .before .before .args .part)))
+    ∙ ap placeCode (c .before .before .place .ensures ∙ (λ i. placeOf (c .before .before .before .before .get-cell .ensures i) (c .before .before .before .get-recipe .ensures i) (at-get-run .get-run .ensures i) (start .args .part)))
 
 pub cellplan-place-spec : {M : Type 1} → statement M
 cellplan-place-spec =

@@ -30,11 +30,15 @@ is-position-requires c κs = search needs
 
 returns-3 : tie.Need-returns-3
 unfolding rule14 rule16
-returns-3 c = accepts (c .before .before .before .before .before .before .check-size .ensures) (c .before .before .before .before .enum-told .given .1) (accepts (sym (noLine-kept TooShort _ (le-ltb _ _ (c .before .before .if1 .left)))) refl (sym (noLine-broken RunRange _ (ap not (sym (c .before .is-position .ensures)) ∙ c .if2 .taken))))
+returns-3 c =
+    let at-check-size = c .before .before .before .before .before .before in
+    accepts (at-check-size .check-size .ensures) (c .before .before .before .before .enum-told .given .1) (accepts (sym (noLine-kept TooShort _ (le-ltb _ _ (c .before .before .if1 .left)))) refl (sym (noLine-broken RunRange _ (ap not (sym (c .before .is-position .ensures)) ∙ c .if2 .taken))))
 
 returns-4 : tie.Need-returns-4
 unfolding rule14 rule16
-returns-4 c = accepts (c .before .before .before .before .before .before .check-size .ensures) (c .before .before .before .before .enum-told .given .1) (accepts (sym (noLine-kept TooShort _ (le-ltb _ _ (c .before .before .if1 .left)))) refl (sym (noLine-kept RunRange _ (ap not (sym (c .before .is-position .ensures)) ∙ c .if2 .left))))
+returns-4 c =
+    let at-check-size = c .before .before .before .before .before .before in
+    accepts (at-check-size .check-size .ensures) (c .before .before .before .before .enum-told .given .1) (accepts (sym (noLine-kept TooShort _ (le-ltb _ _ (c .before .before .if1 .left)))) refl (sym (noLine-kept RunRange _ (ap not (sym (c .before .is-position .ensures)) ∙ c .if2 .left))))
 
 pub check-table-spec : {M : Type 1} → statement M
 check-table-spec =

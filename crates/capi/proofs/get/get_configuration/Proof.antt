@@ -50,7 +50,9 @@ shared-slice-read-t25 c = search needs
 
 returns : tie.Need-returns
 unfolding runFrom tabulate
-returns c = rw (le-ltb (length (c .before .before .before .before .before .before .before .before .before .before .before .before .before .before .args .bytes .now)) 15 (c .before .before .before .before .before .before .before .before .before .before .before .before .before .before .pre))
+returns c =
+    let start = c .before .before .before .before .before .before .before .before .before .before .before .before .before .before in
+    rw (le-ltb (length (start .args .bytes .now)) 15 (start .pre))
 
 pub get-configuration-spec : {M : Type 1} → statement M
 get-configuration-spec =

@@ -38,7 +38,13 @@ column-requires-7 c κs = search needs
 
 returns-2 : tie.Need-returns-2
 unfolding recipeFrom
-returns-2 c = rw (c .before .before .before .before .before .before .before .count-from .ensures, c .before .before .before .before .before .before .column .ensures, c .before .before .before .before .before .column2 .ensures, c .before .before .before .before .column3 .ensures, c .before .before .before .column4 .ensures, c .before .before .column5 .ensures, c .before .column6 .ensures, c .column7 .ensures, le-ltb (length (c .before .before .before .before .before .before .before .before .before .before .before .args .bytes .now)) 449 (c .before .before .before .before .before .before .before .before .before .if1 .left))
+returns-2 c =
+    let at-column2 = c .before .before .before .before .before in
+    let at-column = at-column2 .before in
+    let at-count-from = at-column .before in
+    let at-if1 = at-count-from .before .before in
+    let start = at-if1 .before .before in
+    rw (at-count-from .count-from .ensures, at-column .column .ensures, at-column2 .column2 .ensures, c .before .before .before .before .column3 .ensures, c .before .before .before .column4 .ensures, c .before .before .column5 .ensures, c .before .column6 .ensures, c .column7 .ensures, le-ltb (length (start .args .bytes .now)) 449 (at-if1 .if1 .left))
 
 pub get-recipe-spec : {M : Type 1} → statement M
 get-recipe-spec =

@@ -65,6 +65,8 @@ same-length c = search needs
 returns : tie.Need-returns
 unfolding runBytes tabulate
 returns c =
+    let at-put-five2 = c .before .before .before .before .before .before in
+    let at-put-five = at-put-five2 .before .before .before .before in
     let start = c .before .before .before .before .before .before .before .before .before .before .before .before .before .before .before .before in
     let state = start .args .run .configuration .state in
     let place = start .args .run .configuration .place in
@@ -76,8 +78,8 @@ returns c =
     (start .args .run .point ∷ getD state 0 0 ∷ getD state 1 0 ∷ getD state 2 0 ∷ getD state 3 0 ∷ [])
     (getD state 4 0 ∷ getD state 5 0 ∷ getD place 0 0 ∷ getD place 1 0 ∷ getD place 2 0 ∷ [])
     (getD place 3 0 ∷ getD place 4 0 ∷ getD place 5 0 ∷ getD place 6 0 ∷ getD place 7 0 ∷ [])
-    (c .before .before .before .before .before .before .before .before .before .before .put-five .ensures)
-    (c .before .before .before .before .before .before .put-five2 .ensures)
+    (at-put-five .put-five .ensures)
+    (at-put-five2 .put-five2 .ensures)
     (c .before .before .put-five3 .ensures)
     refl
     refl

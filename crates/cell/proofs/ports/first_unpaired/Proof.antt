@@ -95,9 +95,10 @@ loop-again c =
 
 returns : tie.Need-returns Inv-loop μ-loop Inv-lines μ-lines
 returns c =
+    let at-lines-test = c .before .before .before .before .before .before .before .before .before in
     let line = c .before .before .before .before .before .before .before .before .before .before in
     c .before .loop .inv .0
-    ∙ sym (first-hit _ _ _ (c .before .before .before .before .before .before .before .before .before .lines-test .taken) (line .lines .inv .1) (alone _ _ _ _ _ (omega arith) (omega arith) (passed-end _ _ _ _ _ _ (c .loop-test .left) (c .before .loop .inv .1))))
+    ∙ sym (first-hit _ _ _ (at-lines-test .lines-test .taken) (line .lines .inv .1) (alone _ _ _ _ _ (omega arith) (omega arith) (passed-end _ _ _ _ _ _ (c .loop-test .left) (c .before .loop .inv .1))))
 
 add-i-2 : tie.Need-add-i-2 Inv-loop μ-loop Inv-lines μ-lines
 add-i-2 c = omega arith

@@ -28,7 +28,10 @@ element-copy-out-result-2 c = search needs
 
 returns : tie.Need-returns
 unfolding partner
-returns c = rw (eq-eqb _ _ (c .before .before .before .before .before .if1 .taken ∙ c .before .before .before .before .before .before .before .other-act .ensures), eq-eqb _ _ (c .before .before .if2 .taken))
+returns c =
+    let at-if1 = c .before .before .before .before .before in
+    let at-other-act = at-if1 .before .before in
+    rw (eq-eqb _ _ (at-if1 .if1 .taken ∙ at-other-act .other-act .ensures), eq-eqb _ _ (c .before .before .if2 .taken))
 
 returns-2 : tie.Need-returns-2
 unfolding partner

@@ -44,9 +44,10 @@ enum-told-4 c = search needs
 returns-2 : tie.Need-returns-2
 unfolding findEntry checkTable
 returns-2 c =
+    let at-check-records = c .before .before .before .before .before .before in
     let start = c .before .before .before .before .before .before .before .before in
     let rest : Sizes → Verdict = (λ z. before (rule13 z) (before (rule14 z (length (start .args .table .now))) (rule16 z (start .args .self .point) (start .args .self .configuration)))) in
-    move-refused _ (accepts (c .before .before .before .before .before .before .check-records .ensures) (c .before .before .before .before .enum-told .given .1) (c .before .before .check-table .ensures ∙ ap rest (c .before .before .before .measure .ensures .0))) (c .enum-told4 .given .1)
+    move-refused _ (accepts (at-check-records .check-records .ensures) (c .before .before .before .before .enum-told .given .1) (c .before .before .check-table .ensures ∙ ap rest (c .before .before .before .measure .ensures .0))) (c .enum-told4 .given .1)
 
 position-requires : tie.Need-position-requires
 position-requires c κs =
@@ -66,12 +67,15 @@ shared-slice-read-entry c =
 returns-3 : tie.Need-returns-3
 unfolding findEntry checkTable entryAt
 returns-3 c =
+    let at-measure = c .before .before .before .before .before in
+    let at-enum-told = at-measure .before in
+    let at-check-records = at-enum-told .before .before in
     let start = c .before .before .before .before .before .before .before .before .before .before in
     let rest : Sizes → Verdict = (λ z. before (rule13 z) (before (rule14 z (length (start .args .table .now))) (rule16 z (start .args .self .point) (start .args .self .configuration)))) in
-    let sized = c .before .before .before .before .before .measure .ensures .0 in
+    let sized = at-measure .measure .ensures .0 in
     let placed = sym (c .before .before .enum-told3 .given .1) ∙ c .before .before .before .before .check-table .ensures ∙ ap rest sized in
     let here = c .before .position .ensures .0 ∙ ap (λ (z : Sizes). positionOf z (start .args .self .point) (start .args .self .configuration)) sized in
-    move-accepted _ (sym (accepts (c .before .before .before .before .before .before .before .before .check-records .ensures) (c .before .before .before .before .before .before .enum-told .given .1) placed)) (ap (λ (n : ℕ). getD (start .args .table .now) n 0) here)
+    move-accepted _ (sym (accepts (at-check-records .check-records .ensures) (at-enum-told .enum-told .given .1) placed)) (ap (λ (n : ℕ). getD (start .args .table .now) n 0) here)
 
 pub find-entry-spec : {M : Type 1} → statement M
 find-entry-spec =

@@ -39,18 +39,22 @@ enum-told-4 c = search needs
 returns-2 : tie.Need-returns-2
 unfolding placeOf checkRun
 returns-2 c =
+    let at-check-records = c .before .before .before .before .before .before in
     let start = c .before .before .before .before .before .before .before in
     let rest : Sizes → Verdict = (λ z. before (rule13 z) (rule16 z (start .args .self .point) (start .args .self .configuration))) in
-    place-refused _ (accepts (c .before .before .before .before .before .before .check-records .ensures) (c .before .before .before .before .enum-told .given .1) (c .before .before .check-run .ensures ∙ ap rest (c .before .before .before .measure .ensures .0))) (c .enum-told4 .given .1)
+    place-refused _ (accepts (at-check-records .check-records .ensures) (c .before .before .before .before .enum-told .given .1) (c .before .before .check-run .ensures ∙ ap rest (c .before .before .before .measure .ensures .0))) (c .enum-told4 .given .1)
 
 returns-3 : tie.Need-returns-3
 unfolding placeOf checkRun
 returns-3 c =
+    let at-measure = c .before .before .before .before .before in
+    let at-enum-told = at-measure .before in
+    let at-check-records = at-enum-told .before .before in
     let start = c .before .before .before .before .before .before .before .before .before in
     let rest : Sizes → Verdict = (λ z. before (rule13 z) (rule16 z (start .args .self .point) (start .args .self .configuration))) in
-    let sized = c .before .before .before .before .before .measure .ensures .0 in
+    let sized = at-measure .measure .ensures .0 in
     let placed = sym (c .before .before .enum-told3 .given .1) ∙ c .before .before .before .before .check-run .ensures ∙ ap rest sized in
-    place-accepted _ (sym (accepts (c .before .before .before .before .before .before .before .before .check-records .ensures) (c .before .before .before .before .before .before .enum-told .given .1) placed)) (place-past _ _ sized (c .if1 .taken))
+    place-accepted _ (sym (accepts (at-check-records .check-records .ensures) (at-enum-told .enum-told .given .1) placed)) (place-past _ _ sized (c .if1 .taken))
 
 array-read-t16 : tie.Need-array-read-t16
 array-read-t16 c = search needs
@@ -58,11 +62,15 @@ array-read-t16 c = search needs
 returns-4 : tie.Need-returns-4
 unfolding placeOf checkRun
 returns-4 c =
+    let at-check-run = c .before .before .before .before .before .before in
+    let at-measure = at-check-run .before in
+    let at-enum-told = at-measure .before in
+    let at-check-records = at-enum-told .before .before in
     let start = c .before .before .before .before .before .before .before .before .before .before .before in
     let rest : Sizes → Verdict = (λ z. before (rule13 z) (rule16 z (start .args .self .point) (start .args .self .configuration))) in
-    let sized = c .before .before .before .before .before .before .before .measure .ensures .0 in
-    let placed = sym (c .before .before .before .before .enum-told3 .given .1) ∙ c .before .before .before .before .before .before .check-run .ensures ∙ ap rest sized in
-    place-accepted _ (sym (accepts (c .before .before .before .before .before .before .before .before .before .before .check-records .ensures) (c .before .before .before .before .before .before .before .before .enum-told .given .1) placed)) (place-there _ _ sized (c .before .before .if1 .left))
+    let sized = at-measure .measure .ensures .0 in
+    let placed = sym (c .before .before .before .before .enum-told3 .given .1) ∙ at-check-run .check-run .ensures ∙ ap rest sized in
+    place-accepted _ (sym (accepts (at-check-records .check-records .ensures) (at-enum-told .enum-told .given .1) placed)) (place-there _ _ sized (c .before .before .if1 .left))
 
 pub place-spec : {M : Type 1} → statement M
 place-spec =

@@ -28,8 +28,10 @@ sub-result c = omega arith
 
 returns : tie.Need-returns Inv-loop μ-loop
 returns c =
-    let here = c .before .before .before .before .args in
-    omega (arith, c .before .before .before .loop .inv, counted-to (here .points .now) (here .count) (here .point) (c .before .before .before .before .pre .1 .0) (c .before .before .before .loop .n) (omega (arith, c .before .before .before .before .pre .1 .1)) (c .before .before .loop-test .taken) (c .if1 .taken))
+    let head = c .before .before .before in
+    let start = head .before in
+    let here = start .args in
+    omega (arith, head .loop .inv, counted-to (here .points .now) (here .count) (here .point) (start .pre .1 .0) (head .loop .n) (omega (arith, start .pre .1 .1)) (c .before .before .loop-test .taken) (c .if1 .taken))
 
 add-n : tie.Need-add-n Inv-loop μ-loop
 add-n c = omega arith
@@ -39,8 +41,9 @@ loop-less c = omega arith
 
 loop-again : tie.Need-loop-again Inv-loop μ-loop
 loop-again c =
+    let head = c .before .before .before in
     let here = c .before .before .before .before .args in
-    (omega arith, omega arith, omega (arith, c .before .before .before .loop .inv, one-more (here .points .now) (here .count) (here .point) (c .before .before .before .loop .n) (c .if1 .left)))
+    (omega arith, omega arith, omega (arith, head .loop .inv, one-more (here .points .now) (here .count) (here .point) (head .loop .n) (c .if1 .left)))
 
 sub-result-2 : tie.Need-sub-result-2 Inv-loop μ-loop
 sub-result-2 c = omega arith
