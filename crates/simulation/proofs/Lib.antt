@@ -1,7 +1,7 @@
 -- The method over any machine (Machine, Lost, Closed, Sweep, Stages, Counting) and the cell and the recipe as one (Instance);
 -- joint steps part by part and as single moves (Paired, Parted, PartedCarries, Singles, Split, Same); what the book does
--- (Booked), closed tables (Promised), rules (Ruling, TableRule); certificates that the checker computes (Listing, Staged,
--- Certified, Tabled).
+-- (Booked), closed tables (Promised), rules (Ruling, TableRule); certificates that the checker computes (Numbered,
+-- Listing, Staged, Certified, Tabled).
 pub mod Machine
 pub mod Lost
 pub mod Closed
@@ -21,6 +21,7 @@ pub mod Ruling
 pub mod TableRule
 pub mod Played
 pub mod Planning
+pub mod Numbered
 pub mod Listing
 pub mod Staged
 pub mod Certified

@@ -21,13 +21,12 @@ use Rattle.recipe.specs.Rules.{checkRecipe}
 use Rattle.positions.specs.declared.Configuration.{Configuration}
 use Rattle.positions.specs.Sizes.{sizesOf}
 use Rattle.positions.specs.Position.{positionOf, pointAt, configurationAt}
-use Rattle.positions.proofs.Sized.{fitting}
-use Rattle.positions.proofs.Places.{position-lt, point-back, configuration-back}
 use Rattle.steps.specs.Lines.{linesOf, kindOf, thenOf, elseOf}
 use Rattle.steps.specs.Entry.{entryKind, letter}
 use Rattle.steps.specs.Single.{opens, makes}
 use Rattle.steps.proofs.Anywhere.{open-kind, internal-opens, transfer-opens, opens-carry}
 use Rattle.simulation.specs.Simulation.{Position}
+use Rattle.simulation.proofs.Numbered.{by-number}
 use Rattle.simulation.proofs.Listing.{internal-listed, transfer-listed, carry-listed}
 
 unfoldable pub stageOf : Cell → Recipe → List ℕ → ℕ → Configuration → ℕ
@@ -161,12 +160,12 @@ pub stages-hold :
     → 0 < stageOf c r stages p a
     → Staged c r stages p a
 unfolding areStages
-stages-hold c r stages cell-ok recipe-ok good p a here high =
+stages-hold c r stages cell-ok recipe-ok good p a valid high =
     let z = sizesOf c r in
-    let Z = fitting c r cell-ok recipe-ok in
-    let m : ℕ = positionOf z p a in
-    let point : pointAt z m ≡ p = point-back z Z p a (here .in-range) in
-    let same : configurationAt z m ≡ a = configuration-back z Z p a (here .in-range) (here .six) (here .eight) in
-    let at : positionStaged c r stages (pointAt z m) (configurationAt z m) ≡ true =
-    all-at (λ n. positionStaged c r stages (pointAt z n) (configurationAt z n)) (z .positions) m good (position-lt z Z p a (here .in-range)) in
-    tested c r stages p a (sym (λ i. positionStaged c r stages (point i) (same i)) ∙ at) high
+    tested c r stages p a
+    (by-number c r cell-ok recipe-ok (λ q b. positionStaged c r stages q b ≡ true)
+    (λ m low. all-at (λ n. positionStaged c r stages (pointAt z n) (configurationAt z n)) (z .positions) m good low)
+    p
+    a
+    valid)
+    high

@@ -1,6 +1,6 @@
 -- The test of a table with ranks that the checker computes: a table that passes it is closed.
 -- Assumes nothing.
-use mathlib.Core.Path.{_≡_, sym, _∙_}
+use mathlib.Core.Path.{_≡_}
 use mathlib.Core.Bool.{Bool, true, false, cond, not, _&&_, _||_}
 use mathlib.Core.List.{List}
 use Prim.Native.Nat.{ℕ, zero, suc, _*_, _<_, _≤_}
@@ -19,13 +19,12 @@ use Rattle.recipe.specs.Rules.{checkRecipe}
 use Rattle.positions.specs.declared.Configuration.{Configuration}
 use Rattle.positions.specs.Sizes.{sizesOf}
 use Rattle.positions.specs.Position.{positionOf, pointAt, configurationAt}
-use Rattle.positions.proofs.Sized.{fitting}
-use Rattle.positions.proofs.Places.{position-lt, point-back, configuration-back}
 use Rattle.steps.specs.Lines.{kindOf}
 use Rattle.steps.specs.Entry.{entryKind}
 use Rattle.steps.specs.Single.{opens, makes, leadsTo}
 use Rattle.simulation.specs.Plan.{entryOf}
 use Rattle.simulation.specs.Simulation.{Position}
+use Rattle.simulation.proofs.Numbered.{by-number}
 use Rattle.simulation.proofs.Promised.{ClosedTable}
 
 unfoldable pub rankOf : Cell → Recipe → List ℕ → ℕ → Configuration → ℕ
@@ -74,19 +73,19 @@ module _
     (recipe-ok : checkRecipe r ≡ Accepted)
     (good : isClosed c r table ranks ≡ true)
   where
+    closed-everywhere : (p : ℕ) (a : Configuration) → Position c r p a → closedAt c r table ranks p a ≡ true
+    unfolding isClosed
+    closed-everywhere =
+        let z = sizesOf c r in
+        by-number c r cell-ok recipe-ok (λ p a. closedAt c r table ranks p a ≡ true)
+        (λ m low. all-at (λ n. closedAt c r table ranks (pointAt z n) (configurationAt z n)) (z .positions) m good low)
+
     closes : (p : ℕ) (a : Configuration) → Position c r p a → (entryOf c r table p a ≡ 0 → ⊥) → Closes c r table ranks p a
-    unfolding isClosed closedAt
+    unfolding closedAt
     closes p a valid some =
         let z = sizesOf c r in
-        let Z = fitting c r cell-ok recipe-ok in
-        let m : ℕ = positionOf z p a in
-        let point : pointAt z m ≡ p = point-back z Z p a (valid .in-range) in
-        let same : configurationAt z m ≡ a = configuration-back z Z p a (valid .in-range) (valid .six) (valid .eight) in
-        let at : closedAt c r table ranks (pointAt z m) (configurationAt z m) ≡ true =
-        all-at (λ n. closedAt c r table ranks (pointAt z n) (configurationAt z n)) (z .positions) m good (position-lt z Z p a (valid .in-range)) in
-        let here : closedAt c r table ranks p a ≡ true = sym (λ i. closedAt c r table ranks (point i) (same i)) ∙ at in
         let all : (opens c r p a (entryOf c r table p a) && (ltb (rankOf c r ranks p a) (z .joint * z .ways) && leadsOn c r table ranks p a (entryOf c r table p a))) ≡ true =
-        second (eqb (entryOf c r table p a) 0) _ here (ne-eqb _ 0 some) in
+        second (eqb (entryOf c r table p a) 0) _ (closed-everywhere p a valid) (ne-eqb _ 0 some) in
         record { opened = search and-left; ranked = ltb-true _ _ (search (and-left, and-right)); on = search (and-left, and-right) }
 
     module _ (p : ℕ) (a : Configuration) (valid : Position c r p a) (some : entryOf c r table p a ≡ 0 → ⊥) (going : kindOf r p ≡ 0 → ⊥) where
