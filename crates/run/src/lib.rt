@@ -5,6 +5,7 @@ ghost use Rattle.refusals.specs.Verdict.{before};
 ghost use Rattle.positions.specs.Sizes.{Fitting};
 ghost use Rattle.positions.specs.Rules.{rule13, rule14, rule16};
 ghost use Rattle.run.specs.Calls.{freshRun, findEntry, nextMove, reportOf, placeOf};
+ghost use Rattle.run.specs.Record.{Stored};
 use cell::Cell;
 use positions::Configuration;
 use positions::Sizes;
@@ -197,4 +198,20 @@ impl Run {
             place: places[part as usize],
         }
     }
+}
+
+// The second form of report: the line screen's record is advanced in its own storage.
+pub fn report_record(
+    run: &mut Run,
+    cell: Cell,
+    recipe: Recipe,
+    table: &[u32],
+    outcome: u8,
+) -> Verdict
+    ensures { λ r. ⌜ Stored cell recipe (now (table .entry)) (now (run .entry)) outcome r (now (run .exit)) ⌝ }
+{
+    let before = *run;
+    let answer = before.report(cell, recipe, table, outcome);
+    *run = answer.run;
+    answer.verdict
 }

@@ -1,6 +1,6 @@
 -- The method over any machine (Machine, Lost, Closed, Sweep, Stages, Counting) and the cell and the recipe as one (Instance);
 -- joint steps part by part and as single moves (Paired, Parted, PartedCarries, Singles, Split, Same); what the book does
--- (Booked), closed tables (Promised), rules (Ruling, TableRule); certificates that the checker computes (Numbered,
+-- (Booked), closed tables (Promised) and reports of the second form (Recorded), rules (Ruling, TableRule); certificates that the checker computes (Numbered,
 -- Listing, Staged, Certified, Tabled).
 pub mod Machine
 pub mod Lost
@@ -17,6 +17,7 @@ pub mod Split
 pub mod Same
 pub mod Booked
 pub mod Promised
+pub mod Recorded
 pub mod Ruling
 pub mod TableRule
 pub mod Played
