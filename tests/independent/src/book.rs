@@ -180,7 +180,8 @@ impl<'a> Book<'a> {
 #[cfg(test)]
 mod tests {
     use super::*;
-    use crate::fixtures::{bench, bench_table, lane, some_table, Random};
+    use crate::fixtures::{bench, bench_table, lane, some_table};
+    use crate::random::Random;
 
     /// Feeds a list of calls to the run and to the book and compares every answer. Gives how many
     /// moves of each kind were issued.

@@ -2,6 +2,8 @@
 
 use crate::cell::{read_cell, Cell, CELL_NAMES};
 use crate::entry::{entry_of, is_open, CARRY, INTERNAL, STAY, TRANSFER};
+use crate::plan::plan;
+use crate::random::Random;
 use crate::recipe::{read_recipe, Recipe, RECIPE_NAMES};
 use crate::sizes::Sizes;
 use crate::table::tests::file_of;
@@ -98,23 +100,6 @@ pub(crate) fn lane() -> (Cell, Recipe) {
     (cell, recipe)
 }
 
-/// The numbers of SplitMix64, which look random and are the same in every run.
-pub(crate) struct Random(pub u64);
-
-impl Random {
-    pub(crate) fn bits(&mut self) -> u64 {
-        self.0 = self.0.wrapping_add(0x9e37_79b9_7f4a_7c15);
-        let mut z = self.0;
-        z = (z ^ (z >> 30)).wrapping_mul(0xbf58_476d_1ce4_e5b9);
-        z = (z ^ (z >> 27)).wrapping_mul(0x94d0_49bb_1331_11eb);
-        z ^ (z >> 31)
-    }
-
-    pub(crate) fn below(&mut self, bound: usize) -> usize {
-        (self.bits() % bound as u64) as usize
-    }
-}
-
 /// A table with an open move at most positions that have one, and here and there some other entry.
 pub(crate) fn some_table(cell: &Cell, recipe: &Recipe, random: &mut Random) -> Vec<u32> {
     let sizes = Sizes::of(cell, recipe);
@@ -139,4 +124,38 @@ pub(crate) fn some_table(cell: &Cell, recipe: &Recipe, random: &mut Random) -> V
             }
         })
         .collect()
+}
+
+/// As many positions as there may be, and a way from nearly all of them: three stations that do
+/// everything in every state; five parts that are given, tested and taken.
+pub(crate) fn works() -> (Cell, Recipe) {
+    let mut lines = vec![];
+    for (k, state) in (0..12).map(|n| (n / 4, n % 4)) {
+        let next = (state + 1) % 4;
+        lines.push(format!("{k},{state},1,{},{next}", state % 2));
+        lines.push(format!("{k},{state},0,0,{}", (state + 2) % 4));
+        lines.push(format!("{k},{state},3,{k},{next}"));
+        lines.push(format!("{k},{state},2,{},{next}", (k + 2) % 3));
+    }
+    let mut points = vec![];
+    for (point, part) in (0..15).map(|n| (n, 1 << (n % 5))) {
+        let (op, then) = (point % 2, point + 1);
+        points.push(match point / 5 {
+            0 => format!("{point},1,{op},0,{part},{then},0"),
+            1 => format!("{point},2,{op},{part},0,{then},{}", 5 + point % 3),
+            _ => format!("{point},1,{op},{part},0,{then},0"),
+        });
+    }
+    points.push("15,0,0,0,0,0,0".to_string());
+    let lines: Vec<&str> = lines.iter().map(String::as_str).collect();
+    let points: Vec<&str> = points.iter().map(String::as_str).collect();
+    (cell_of(&lines), recipe_of(&points))
+}
+
+/// What the planner answers for a cell and a recipe, and its table.
+pub(crate) fn planned(cell: &Cell, recipe: &Recipe) -> (u8, Vec<u32>) {
+    let positions = Sizes::of(cell, recipe).positions as usize;
+    let mut table = vec![0; positions];
+    let refusal = plan(cell, recipe, &mut table, positions);
+    (refusal, table)
 }

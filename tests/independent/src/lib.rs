@@ -1,14 +1,20 @@
-//! An independent program for the cell and recipe files, the run over a stored table and the book
-//! that the run is held against, written from their description alone. The tests compare the proved
-//! library with it, and the benchmark measures against it.
+//! An independent program for the cell and recipe files, the planner, the run over a stored table and
+//! the book that the run is held against, written from their description alone; with a judge of planned
+//! tables and a generator of cells and recipes. The tests compare the proved library with it, and the
+//! benchmark measures against it.
 
 mod book;
 mod cell;
 mod entry;
 #[cfg(test)]
 mod fixtures;
+mod generate;
+mod judge;
+mod plan;
+mod random;
 mod recipe;
 mod run;
+mod simulation;
 mod sizes;
 mod step;
 mod table;
@@ -18,11 +24,16 @@ pub use cell::{
     cell_bytes, cell_of_bytes, check_cell, read_cell, Cell, CellReading, CELL_BYTES, CELL_NAMES,
 };
 pub use entry::{entry_of, is_open, kind_of, letters_of, CARRY, INTERNAL, STAY, TRANSFER};
+pub use generate::likely_pair;
+pub use judge::{judge, Fault};
+pub use plan::plan;
+pub use random::Random;
 pub use recipe::{
     check_recipe, read_recipe, recipe_bytes, recipe_of_bytes, Recipe, RecipeReading, RECIPE_BYTES,
     RECIPE_NAMES,
 };
 pub use run::{check, run_bytes, run_of_bytes, NextMove, Place, Report, Run, RUN_BYTES};
+pub use simulation::{greatest_simulation, joint_choices};
 pub use sizes::{Configuration, Sizes, MOST_PARTS, MOST_POSITIONS, MOST_RESOURCES};
 pub use step::JointStep;
 pub use table::{value_line, value_line_bytes, Reading, Refusal, MOST_LINES};

@@ -47,7 +47,8 @@ pub fn check(cell: &Cell, recipe: &Recipe) -> u8 {
     try_records(cell, recipe).err().unwrap_or(0)
 }
 
-fn try_records(cell: &Cell, recipe: &Recipe) -> Result<Sizes, u8> {
+/// The sizes of a cell and a recipe that break none of the rules 3 to 13, or the first that they do.
+pub(crate) fn try_records(cell: &Cell, recipe: &Recipe) -> Result<Sizes, u8> {
     try_rules(check_cell(cell))?;
     try_rules(check_recipe(recipe))?;
     let sizes = Sizes::of(cell, recipe);

@@ -1,0 +1,292 @@
+//! Cells and recipes that fit each other, many of which are realisable. A recipe is written along a
+//! walk through its cell, so that there is a way for it; then some pairs are damaged in one place.
+
+mod cell_lines;
+mod walk;
+
+use crate::cell::{cell_of_bytes, Cell, CELL_BYTES};
+use crate::random::Random;
+use crate::recipe::{recipe_of_bytes, Recipe, END, MOST_PARALLEL, RECIPE_BYTES};
+use crate::run::check;
+use crate::sizes::Sizes;
+use crate::table::MOST_LINES;
+
+/// A value line of a cell, and one of a recipe.
+type CellLine = [u8; 5];
+type RecipeLine = [u8; 7];
+
+const END_LINE: RecipeLine = [0, END, 0, 0, 0, 0, 0];
+
+/// How often a cell is thrown away in which the walk finds nothing to do.
+const MOST_TRIES: usize = 4;
+
+/// A cell and a recipe of at most this many positions, 50 or more, that pass the rules before 14.
+pub fn likely_pair(most_positions: u64, random: &mut Random) -> (Cell, Recipe) {
+    let (cell_lines, recipe_lines) = likely_lines(most_positions, random);
+    let tries = random.choose(&[0, 8]);
+    for _ in 0..tries {
+        let damaged = damaged_pair(cell_lines.clone(), recipe_lines.clone(), random);
+        let fits = || Sizes::of(&damaged.0, &damaged.1).positions <= most_positions;
+        if check(&damaged.0, &damaged.1) == 0 && fits() {
+            return damaged;
+        }
+    }
+    (cell_of_lines(&cell_lines), recipe_of_lines(&recipe_lines))
+}
+
+/// The lines of a cell and of a recipe for which there is a way, unless its points were too few.
+fn likely_lines(most_positions: u64, random: &mut Random) -> (Vec<CellLine>, Vec<RecipeLine>) {
+    let only_ends = random.below(40);
+    let mut tries = 0;
+    loop {
+        let shape = Shape::new(most_positions, random);
+        let cell_lines = cell_lines::cell_lines(&shape, random);
+        let recipe_lines = match only_ends {
+            0 => vec![END_LINE],
+            1 => (0..shape.points as u8)
+                .map(|point| numbered(END_LINE, point))
+                .collect(),
+            _ => walk::recipe_lines(&cell_of_lines(&cell_lines), &shape, random),
+        };
+        tries += 1;
+        if recipe_lines.len() > 1 || only_ends < 2 || tries == MOST_TRIES {
+            return (cell_lines, recipe_lines);
+        }
+    }
+}
+
+/// How great a pair may become.
+struct Shape {
+    /// Parallel lines want many stations, for which small cells have room if they do little else.
+    wide: bool,
+    /// How many states each resource may have.
+    states: Vec<u8>,
+    parts: usize,
+    points: usize,
+}
+
+impl Shape {
+    fn new(most_positions: u64, random: &mut Random) -> Shape {
+        let wide = random.once_in(3);
+        let resources = match wide {
+            true => random.choose(&[4, 4, 4, 5, 6]),
+            false => random.choose(&[1, 2, 2, 3, 3, 4, 5, 6]),
+        };
+        let most_states = match wide {
+            true => random.choose(&[1, 1, 2]),
+            false => random.choose(&[2, 2, 3, 3, 4, 8]),
+        };
+        let states = (0..resources).map(|_| 1 + random.below(most_states) as u8);
+        let mut shape = Shape {
+            wide,
+            states: states.collect(),
+            parts: match wide {
+                true => random.choose(&[2, 2, 3, 4]),
+                false => random.choose(&[1, 1, 2, 2, 3, 4, 5, 8]),
+            },
+            points: random.choose(&[2, 3, 4, 5, 6, 8, 12, 16]),
+        };
+        while shape.positions() > most_positions {
+            shape.shrink(random);
+        }
+        shape
+    }
+
+    fn positions(&self) -> u64 {
+        let joint_states: u64 = self.states.iter().map(|&count| u64::from(count)).product();
+        let placings = (self.states.len() as u64 + 1).pow(self.parts as u32);
+        self.points as u64 * joint_states * placings
+    }
+
+    fn shrink(&mut self, random: &mut Random) {
+        let (fewest_resources, fewest_parts) = if self.wide { (4, 2) } else { (1, 1) };
+        let k = random.below(self.states.len());
+        match random.below(8) {
+            0 if self.states.len() > fewest_resources => _ = self.states.pop(),
+            1 | 2 | 3 => self.states[k] = (self.states[k] - 1).max(1),
+            4 | 5 => self.parts = (self.parts - 1).max(fewest_parts),
+            _ => self.points = (self.points - 1).max(1),
+        }
+    }
+}
+
+/// The pair with up to three lines changed or left out.
+fn damaged_pair(
+    mut cell: Vec<CellLine>,
+    mut recipe: Vec<RecipeLine>,
+    random: &mut Random,
+) -> (Cell, Recipe) {
+    for _ in 0..1 + random.below(3) {
+        let cell_line = random.below(cell.len());
+        let recipe_line = random.below(recipe.len());
+        let field = random.below(7);
+        match field {
+            0 if cell.len() > 1 => _ = cell.remove(cell_line),
+            0 | 1 => cell[cell_line][1] = random.below(4) as u8,
+            2 => recipe[recipe_line][field] = random.below(4) as u8,
+            3 if random.once_in(2) => cell[cell_line][field] = random.below(4) as u8,
+            3 | 4 => recipe[recipe_line][field] ^= 1 << random.below(3),
+            _ => recipe[recipe_line][field] = random.below(recipe.len()) as u8,
+        }
+    }
+    (cell_of_lines(&cell), recipe_of_lines(&recipe))
+}
+
+/// A recipe line with another point.
+fn numbered(mut line: RecipeLine, point: u8) -> RecipeLine {
+    line[0] = point;
+    line
+}
+
+fn cell_of_lines(lines: &[CellLine]) -> Cell {
+    let mut bytes = [0; CELL_BYTES];
+    bytes[0] = lines.len() as u8;
+    for (at, line) in bytes[1..].chunks_exact_mut(5).zip(lines) {
+        at.copy_from_slice(line);
+    }
+    cell_of_bytes(&bytes)
+}
+
+fn recipe_of_lines(lines: &[RecipeLine]) -> Recipe {
+    let mut bytes = [0; RECIPE_BYTES];
+    bytes[0] = lines.len() as u8;
+    for (at, line) in bytes[1..].chunks_exact_mut(7).zip(lines) {
+        at.copy_from_slice(line);
+    }
+    recipe_of_bytes(&bytes)
+}
+
+#[cfg(test)]
+mod tests {
+    use super::*;
+    use crate::entry::{kind_of, makes, TRANSFER};
+    use crate::fixtures::planned;
+    use crate::recipe::TEST;
+    use crate::run::Run;
+
+    /// How often each feature is met.
+    #[derive(Debug, Default)]
+    struct Counts {
+        realisable: usize,
+        tests: usize,
+        rework: usize,
+        parallel: [usize; MOST_PARALLEL],
+        transfers: usize,
+        silent_rings: usize,
+        several_parts: usize,
+        forgotten_points: usize,
+        one_end: usize,
+        no_parts: usize,
+        no_end: usize,
+    }
+
+    /// The points to which one or more branches lead from a point.
+    fn points_after(recipe: &Recipe, point: u8) -> Vec<u8> {
+        let mut found = recipe.branches_at(point);
+        let mut n = 0;
+        while n < found.len() {
+            for branch in recipe.branches_at(found[n]) {
+                if !found.contains(&branch) {
+                    found.push(branch);
+                }
+            }
+            n += 1;
+        }
+        found
+    }
+
+    /// Whether the planned moves from the start have a transfer among them, whatever the outcomes.
+    fn uses_a_transfer(cell: &Cell, recipe: &Recipe, table: &[u32]) -> bool {
+        let sizes = Sizes::of(cell, recipe);
+        let mut met = vec![0];
+        let mut n = 0;
+        while n < met.len() {
+            let (point, configuration) = sizes.at(met[n]);
+            let entry = table[met[n] as usize];
+            for outcome in [0, 1] {
+                let made = makes(cell, recipe, point, &configuration, entry, outcome);
+                let next = made.map(|(point, c)| sizes.position(point, &c));
+                met.extend(next.filter(|next| !met.contains(next)));
+            }
+            n += 1;
+        }
+        met.iter().any(|&p| kind_of(table[p as usize]) == TRANSFER)
+    }
+
+    impl Counts {
+        fn add(&mut self, cell: &Cell, recipe: &Recipe) {
+            let sizes = Sizes::of(cell, recipe);
+            let points = 0..sizes.points as u8;
+            let after = points_after(recipe, 0);
+            let reached: Vec<u8> = points
+                .clone()
+                .filter(|p| *p == 0 || after.contains(p))
+                .collect();
+            let kind_met = |kind| reached.iter().any(|&point| recipe.kind_at(point) == kind);
+            let (refusal, table) = planned(cell, recipe);
+            let accepted = refusal == 0;
+            let loops = |&point: &u8| points_after(recipe, point).contains(&point);
+            self.realisable += usize::from(accepted);
+            self.tests += usize::from(accepted && kind_met(TEST));
+            self.no_end += usize::from(accepted && !kind_met(END));
+            self.rework += usize::from(accepted && kind_met(TEST) && reached.iter().any(loops));
+            for lines in reached.iter().map(|&point| recipe.lines_at(point).len()) {
+                self.parallel[lines - 1] += usize::from(accepted);
+            }
+            self.transfers += usize::from(accepted && uses_a_transfer(cell, recipe, &table));
+            self.silent_rings +=
+                usize::from(walk::has_silent_ring(cell, &Run::fresh().configuration));
+            self.several_parts += usize::from(accepted && sizes.parts > 1);
+            self.forgotten_points += usize::from(reached.len() < points.len());
+            self.one_end += usize::from(recipe.count == 1 && kind_met(END));
+            self.no_parts += usize::from(sizes.parts == 0);
+        }
+    }
+
+    fn counts(most_positions: u64, pairs: usize, seed: u64) -> Counts {
+        let mut random = Random(seed);
+        let mut counts = Counts::default();
+        for _ in 0..pairs {
+            let (cell, recipe) = likely_pair(most_positions, &mut random);
+            assert_eq!(check(&cell, &recipe), 0);
+            assert!(Sizes::of(&cell, &recipe).positions <= most_positions);
+            counts.add(&cell, &recipe);
+        }
+        counts
+    }
+
+    #[test]
+    fn many_are_realisable_and_every_feature_is_met() {
+        for (most_positions, pairs, seed) in [(400, 3000, 31), (20_000, 600, 32)] {
+            let counts = counts(most_positions, pairs, seed);
+            println!("{most_positions}: {counts:?}");
+            assert!(3 * counts.realisable > pairs && 10 * counts.realisable < 9 * pairs);
+            let Counts {
+                tests,
+                rework,
+                parallel,
+                transfers,
+                silent_rings,
+                several_parts,
+                forgotten_points,
+                one_end,
+                no_parts,
+                no_end,
+                ..
+            } = counts;
+            let often = [tests, transfers, silent_rings, several_parts, rework];
+            assert!(often.iter().all(|&count| 20 * count > pairs));
+            let seldom = [forgotten_points, one_end, no_parts, no_end];
+            let met = |count: &usize| 100 * count > pairs;
+            assert!(seldom.iter().chain(&parallel).all(met));
+        }
+    }
+
+    #[test]
+    fn the_same_seed_gives_the_same_pairs() {
+        for seed in 0..50 {
+            let pair = likely_pair(1000, &mut Random(seed));
+            assert_eq!(pair, likely_pair(1000, &mut Random(seed)));
+        }
+    }
+}

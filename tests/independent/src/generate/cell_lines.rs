@@ -1,0 +1,67 @@
+//! State diagrams in which much can go on.
+
+use super::{CellLine, Shape, MOST_LINES};
+use crate::cell::{IN, INTERNAL, OPERATION, OUT};
+use crate::random::Random;
+
+/// The value lines of a cell. Each resource goes round through its states, so that it seldom gets
+/// stuck; there are some other lines; and some lines are made to pairs of an out and an in.
+pub(super) fn cell_lines(shape: &Shape, random: &mut Random) -> Vec<CellLine> {
+    // Few numbers, so that several stations have the same operation.
+    let numbers = random.choose(&[1, 2, 2, 3, 3, 4, 64]);
+    let operations = match shape.wide {
+        true => 5,
+        false => random.choose(&[1, 2, 3, 3, 4, 4]),
+    };
+    let mut lines = Vec::new();
+    for (k, &states) in shape.states.iter().enumerate() {
+        for from in 0..states {
+            let (act, arg) = work(operations, numbers, random);
+            lines.push([k as u8, from, act, arg, (from + 1) % states]);
+        }
+    }
+    // A wide cell has its lanes beside the operations, so that these are open together.
+    let without_lanes = if shape.wide { lines.len() } else { 0 };
+    let others = match random.below(10) {
+        0 => MOST_LINES - lines.len(),
+        _ => random.below(2 * shape.states.len() + 1),
+    };
+    for _ in 0..others {
+        let k = random.below(shape.states.len());
+        let states = usize::from(shape.states[k]);
+        let (act, arg) = work(operations, numbers, random);
+        let (from, to) = (random.below(states) as u8, random.below(states) as u8);
+        lines.push([k as u8, from, act, arg, to]);
+    }
+    for _ in 0..random.below(3 * shape.states.len()) {
+        add_lane(&mut lines[without_lanes..], random);
+    }
+    random.shuffle(&mut lines);
+    lines
+}
+
+/// An act and its number: an operation so many times in five, else internal work.
+fn work(operations: usize, numbers: usize, random: &mut Random) -> (u8, u8) {
+    let act = if random.below(5) < operations {
+        OPERATION
+    } else {
+        INTERNAL
+    };
+    (act, random.below(numbers) as u8)
+}
+
+/// Makes two lines of two resources an out and an in on one port. What is a transfer already stays
+/// one, so that none loses its partner.
+fn add_lane(lines: &mut [CellLine], random: &mut Random) {
+    if lines.is_empty() {
+        return;
+    }
+    let (a, b) = (random.below(lines.len()), random.below(lines.len()));
+    let transfers = |line: &CellLine| line[2] == IN || line[2] == OUT;
+    if lines[a][0] == lines[b][0] || transfers(&lines[a]) || transfers(&lines[b]) {
+        return;
+    }
+    let port = random.choose(&[0, 1, 2, 3, 63]);
+    (lines[a][2], lines[b][2]) = (OUT, IN);
+    (lines[a][3], lines[b][3]) = (port, port);
+}
