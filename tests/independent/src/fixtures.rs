@@ -1,10 +1,11 @@
 //! Cells and recipes for the tests of several modules.
 
 use crate::cell::{read_cell, Cell, CELL_NAMES};
-use crate::entry::{entry_of, is_open, CARRY, INTERNAL, STAY, TRANSFER};
+use crate::entry::{entry_of, is_open, kind_of, makes, CARRY, INTERNAL, STAY, TRANSFER};
 use crate::plan::plan;
 use crate::random::Random;
 use crate::recipe::{read_recipe, Recipe, RECIPE_NAMES};
+use crate::simulation::greatest_simulation;
 use crate::sizes::Sizes;
 use crate::table::tests::file_of;
 
@@ -158,4 +159,92 @@ pub(crate) fn planned(cell: &Cell, recipe: &Recipe) -> (u8, Vec<u32>) {
     let mut table = vec![0; positions];
     let refusal = plan(cell, recipe, &mut table, positions);
     (refusal, table)
+}
+
+/// How many letters `open_moves` tries for all positions together.
+pub(crate) fn letters_to_try(cell: &Cell, recipe: &Recipe) -> u64 {
+    let sizes = Sizes::of(cell, recipe);
+    let letters = (0..sizes.points as u8).map(|point| used_letters(recipe, point));
+    let most = letters.max().unwrap_or(0) as u32;
+    u64::from(cell.count).pow(most) * sizes.positions
+}
+
+/// The most letters that a move at a point uses: two in a transfer, else one for each of its lines.
+fn used_letters(recipe: &Recipe, point: u8) -> usize {
+    recipe.lines_at(point).len().max(2)
+}
+
+/// Every single move that is open at a position, by trying all letters that could be.
+pub(crate) fn open_moves(cell: &Cell, recipe: &Recipe, position: u64) -> Vec<u32> {
+    let (point, configuration) = Sizes::of(cell, recipe).at(position);
+    let mut letters = vec![[0; 4]];
+    for n in 0..used_letters(recipe, point) {
+        let fewer = std::mem::take(&mut letters);
+        for line in 0..usize::from(cell.count) {
+            letters.extend(fewer.iter().map(|&some| {
+                let mut more: [usize; 4] = some;
+                more[n] = line;
+                more
+            }));
+        }
+    }
+    let mut open = vec![];
+    for kind in [INTERNAL, TRANSFER, CARRY, STAY] {
+        let entries = letters.iter().map(|&letters| entry_of(kind, letters));
+        open.extend(entries.filter(|&e| is_open(cell, recipe, point, &configuration, e)));
+    }
+    open
+}
+
+/// A table that is allowed, found slowly from the greatest simulation by joint steps. Each round looks
+/// at the positions without an entry; their carries into the simulation and their silent moves to
+/// positions with an entry are shown to `choose`, which picks one or puts the position off.
+pub(crate) fn slow_table(
+    cell: &Cell,
+    recipe: &Recipe,
+    mut choose: impl FnMut(Vec<u32>) -> Option<u32>,
+) -> Vec<u32> {
+    let sizes = Sizes::of(cell, recipe);
+    let greatest = greatest_simulation(cell, recipe);
+    let mut table = vec![0; greatest.len()];
+    loop {
+        let mut chosen = vec![];
+        let mut waiting = false;
+        for position in (0..sizes.positions).filter(|&p| table[p as usize] == 0) {
+            let mut moves = open_moves(cell, recipe, position);
+            moves.retain(|&entry| {
+                let silent = [INTERNAL, TRANSFER].contains(&kind_of(entry));
+                let good = |p: usize| if silent { table[p] != 0 } else { greatest[p] };
+                next_positions(cell, recipe, position, entry)
+                    .into_iter()
+                    .all(good)
+            });
+            if !moves.is_empty() {
+                waiting = true;
+                chosen.extend(choose(moves).map(|entry| (position as usize, entry)));
+            }
+        }
+        if !waiting {
+            return table;
+        }
+        // All of a round at once, so that silent moves lead to what earlier rounds found.
+        chosen
+            .into_iter()
+            .for_each(|(position, entry)| table[position] = entry);
+    }
+}
+
+/// The positions to which an open entry leads, one for each outcome.
+pub(crate) fn next_positions(
+    cell: &Cell,
+    recipe: &Recipe,
+    position: u64,
+    entry: u32,
+) -> Vec<usize> {
+    let sizes = Sizes::of(cell, recipe);
+    let (point, configuration) = sizes.at(position);
+    let made = |outcome| makes(cell, recipe, point, &configuration, entry, outcome);
+    let next = [0, 1].into_iter().filter_map(made);
+    next.map(|(point, configuration)| sizes.position(point, &configuration) as usize)
+        .collect()
 }

@@ -1,5 +1,6 @@
 //! Cells and recipes that fit each other, many of which are realisable. A recipe is written along a
-//! walk through its cell, so that there is a way for it; then some pairs are damaged in one place.
+//! walk through its cell, so that there is a way for it; then some pairs are damaged in a place or
+//! more.
 
 mod cell_lines;
 mod walk;
@@ -8,7 +9,7 @@ use crate::cell::{cell_of_bytes, Cell, CELL_BYTES};
 use crate::random::Random;
 use crate::recipe::{recipe_of_bytes, Recipe, END, MOST_PARALLEL, RECIPE_BYTES};
 use crate::run::check;
-use crate::sizes::Sizes;
+use crate::sizes::{Sizes, MOST_PARTS};
 use crate::table::MOST_LINES;
 
 /// A value line of a cell, and one of a recipe.
@@ -56,6 +57,7 @@ fn likely_lines(most_positions: u64, random: &mut Random) -> (Vec<CellLine>, Vec
 }
 
 /// How great a pair may become.
+#[derive(Clone)]
 struct Shape {
     /// Parallel lines want many stations, for which small cells have room if they do little else.
     wide: bool,
@@ -89,7 +91,24 @@ impl Shape {
         while shape.positions() > most_positions {
             shape.shrink(random);
         }
+        for _ in 0..random.choose(&[0, 0, 5, 40]) {
+            shape.grow(most_positions, random);
+        }
         shape
+    }
+
+    /// Adds a state, a part or a point if there is room for it.
+    fn grow(&mut self, most_positions: u64, random: &mut Random) {
+        let before = self.clone();
+        let k = random.below(self.states.len());
+        match random.below(3) {
+            0 => self.states[k] = (self.states[k] + 1).min(8),
+            1 => self.parts = (self.parts + 1).min(MOST_PARTS),
+            _ => self.points = (self.points + 1).min(16),
+        }
+        if self.positions() > most_positions {
+            *self = before;
+        }
     }
 
     fn positions(&self) -> u64 {
@@ -103,7 +122,7 @@ impl Shape {
         let k = random.below(self.states.len());
         match random.below(8) {
             0 if self.states.len() > fewest_resources => _ = self.states.pop(),
-            1 | 2 | 3 => self.states[k] = (self.states[k] - 1).max(1),
+            1..=3 => self.states[k] = (self.states[k] - 1).max(1),
             4 | 5 => self.parts = (self.parts - 1).max(fewest_parts),
             _ => self.points = (self.points - 1).max(1),
         }
@@ -259,7 +278,6 @@ mod tests {
     fn many_are_realisable_and_every_feature_is_met() {
         for (most_positions, pairs, seed) in [(400, 3000, 31), (20_000, 600, 32)] {
             let counts = counts(most_positions, pairs, seed);
-            println!("{most_positions}: {counts:?}");
             assert!(3 * counts.realisable > pairs && 10 * counts.realisable < 9 * pairs);
             let Counts {
                 tests,
@@ -279,6 +297,10 @@ mod tests {
             let seldom = [forgotten_points, one_end, no_parts, no_end];
             let met = |count: &usize| 100 * count > pairs;
             assert!(seldom.iter().chain(&parallel).all(met));
+            println!(
+                "{most_positions} {} {often:?} {seldom:?} {parallel:?}",
+                counts.realisable
+            );
         }
     }
 
