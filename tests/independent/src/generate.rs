@@ -297,10 +297,6 @@ mod tests {
             let seldom = [forgotten_points, one_end, no_parts, no_end];
             let met = |count: &usize| 100 * count > pairs;
             assert!(seldom.iter().chain(&parallel).all(met));
-            println!(
-                "{most_positions} {} {often:?} {seldom:?} {parallel:?}",
-                counts.realisable
-            );
         }
     }
 
