@@ -157,6 +157,21 @@ uint32_t cellplan_report(const uint8_t *cell, size_t cell_length,
                          uint8_t *run, size_t run_length, uint8_t outcome);
 
 /*
+ * The same with the run as a record of the caller's, which is advanced in its own storage. A record has
+ * the bytes of a run and no padding.
+ */
+struct cellplan_run {
+    uint8_t point;
+    uint8_t state[6];
+    uint8_t place[8];
+};
+
+uint32_t cellplan_report_record(const uint8_t *cell, size_t cell_length,
+                                const uint8_t *recipe, size_t recipe_length,
+                                const uint32_t *table, size_t table_entries,
+                                struct cellplan_run *run, uint8_t outcome);
+
+/*
  * The place of a part. The result is
  *     refusal * 256 + place,
  * with place 255 if refused, and refusal 0 with place 255 for a part number of P or more, P being the

@@ -12,6 +12,7 @@ use Rattle.refusals.specs.Verdict.{refusalIn}
 use Rattle.run.specs.declared.Move.{Move}
 use Rattle.run.specs.declared.Place.{Place}
 use Rattle.run.specs.declared.Report.{Report}
+use Rattle.run.specs.declared.Run.{Run}
 use Rattle.capi.specs.Encoding.{codeOf, runBytes}
 
 -- "A buffer lent for the answer .. that is too short gets 14, line 0, before anything else, and nothing is written";
@@ -32,3 +33,8 @@ placeCode place = refusalIn (place .verdict) * 256 + place .place
 pub record Reported (report : Report) (entry exit : List ℕ) (answer : ℕ) : Type 0 where
   pub answer-is : answer ≡ refusalIn (report .verdict)
   pub run-is : exit ≡ cond (ltb (length entry) 15) entry (runBytes (report .run) ++ drop 15 entry)
+
+-- "refusal or 0"; a record in its own storage is the next run, and stays if the report is refused, since a refused report holds its own run
+pub record Advanced (report : Report) (exit : Run) (answer : ℕ) : Type 0 where
+  pub answer-is : answer ≡ refusalIn (report .verdict)
+  pub run-is : exit ≡ report .run

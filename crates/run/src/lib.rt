@@ -14,6 +14,7 @@ use refusals::Refusal;
 use refusals::Verdict;
 
 // Where a product is in its recipe, and how the cell stands.
+#[repr(C)]
 pub struct Run {
     pub point: u8,
     pub configuration: Configuration,

@@ -1,7 +1,7 @@
 //! The calls on records and runs, the library's and the independent program's under the same
 //! signatures: on the same bytes, with the same results.
 
-use crate::c;
+use crate::{c, RunRecord};
 use independent::{cell_of_bytes, check, recipe_of_bytes, run_bytes, run_of_bytes, Run, RUN_BYTES};
 
 /// The five calls as the C interface has them.
@@ -24,6 +24,31 @@ pub trait Calls {
 
 /// The library, called through its C interface.
 pub struct Library;
+
+impl Library {
+    /// The second form of report: the refusal, or 0 with the next run in the record's own storage.
+    pub fn report_record(
+        cell: &[u8],
+        recipe: &[u8],
+        table: &[u32],
+        run: &mut RunRecord,
+        outcome: u8,
+    ) -> u32 {
+        // SAFETY: as for the calls below, and the record is lent for writing to this call alone.
+        unsafe {
+            c::cellplan_report_record(
+                cell.as_ptr(),
+                cell.len(),
+                recipe.as_ptr(),
+                recipe.len(),
+                table.as_ptr(),
+                table.len(),
+                run,
+                outcome,
+            )
+        }
+    }
+}
 
 // SAFETY, for every call: the pointers and lengths are those of slices that outlive the call, and
 // the one lent for writing overlaps no other.

@@ -63,6 +63,16 @@ mod c {
             run_length: usize,
             outcome: u8,
         ) -> u32;
+        pub fn cellplan_report_record(
+            cell: *const u8,
+            cell_length: usize,
+            recipe: *const u8,
+            recipe_length: usize,
+            table: *const u32,
+            table_entries: usize,
+            run: *mut crate::RunRecord,
+            outcome: u8,
+        ) -> u32;
         pub fn cellplan_place(
             cell: *const u8,
             cell_length: usize,
@@ -72,6 +82,26 @@ mod c {
             run_length: usize,
             part: u8,
         ) -> u32;
+    }
+}
+
+/// A run record as the C interface has it: `struct cellplan_run`.
+#[repr(C)]
+#[derive(Clone, Copy, Debug, PartialEq, Eq)]
+pub struct RunRecord {
+    pub point: u8,
+    pub state: [u8; 6],
+    pub place: [u8; 8],
+}
+
+impl RunRecord {
+    /// The record whose fields are the first bytes of a run, or none if there are too few.
+    pub fn of(run: &[u8]) -> Option<RunRecord> {
+        Some(RunRecord {
+            point: *run.first()?,
+            state: run.get(1..7)?.try_into().ok()?,
+            place: run.get(7..15)?.try_into().ok()?,
+        })
     }
 }
 

@@ -3,6 +3,7 @@
 
 use crate::calls::{Calls, Independent, Library};
 use crate::random::Random;
+use crate::RunRecord;
 use independent::{
     cell_of_bytes, check, entry_of, recipe_of_bytes, run_of_bytes, Cell, Recipe, Sizes,
     MOST_POSITIONS,
@@ -161,7 +162,21 @@ fn compare_report(round: &Round, entries: &[u32]) -> u32 {
         left == expected,
         "report: the library leaves the run {left:?}, the independent program {expected:?}\n{round}"
     );
+    compare_forms(round, entries, refusal, &left);
     refusal
+}
+
+/// Compares the second form of report with the first: its result, and the record in place of the bytes.
+fn compare_forms(round: &Round, entries: &[u32], refusal: u32, left: &[u8]) {
+    let Some(mut record) = RunRecord::of(&round.run) else {
+        return;
+    };
+    let (cell, recipe) = (&round.cell, &round.recipe);
+    let second = Library::report_record(cell, recipe, entries, &mut record, round.outcome);
+    assert!(
+        second == refusal && Some(record) == RunRecord::of(left),
+        "report: the second form answers {second} and leaves {record:?}, the first {refusal} and {left:?}\n{round}"
+    );
 }
 
 /// The result that both gave.
