@@ -4,4 +4,7 @@ mod Moves
 mod Limit
 mod Followed
 mod Plans
+mod Forced
+mod Called
+mod Shuttle
 pub mod Table

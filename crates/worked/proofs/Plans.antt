@@ -45,10 +45,10 @@ use Rattle.worked.specs.Plans.{benchStages, deadRecipe, deadStages, endR
 
 -- what is computed
 pub record Computed : Type 0 where
-  sized : checkSizes benchCell benchRecipe ≡ Accepted
-  cell-passes : cell.checkCell benchCell ≡ Accepted
-  recipe-passes : recipe.checkRecipe benchRecipe ≡ Accepted
-  positions : sizesOf benchCell benchRecipe .positions ≡ 90
+  pub sized : checkSizes benchCell benchRecipe ≡ Accepted
+  pub cell-passes : cell.checkCell benchCell ≡ Accepted
+  pub recipe-passes : recipe.checkRecipe benchRecipe ≡ Accepted
+  pub positions : sizesOf benchCell benchRecipe .positions ≡ 90
   closed : isClosed benchCell benchRecipe benchTable benchRanks ≡ true
   staged : areStages benchCell benchRecipe benchStages ≡ true
   -- every position without an entry has a stage
@@ -163,7 +163,7 @@ unfolding neverShut
 never-refused true e h = refl
 never-refused false e h = h
 
-plan-opens :
+pub plan-opens :
     (c : Cell) (r : Recipe) (table : List ℕ) (p : ℕ) (a : Configuration)
     → Promises c r table p a (asks ∷ [])
     → isOpen c r (opened p a) (entryOf c r table p a) ≡ true

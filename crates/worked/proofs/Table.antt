@@ -3,23 +3,28 @@
 use mathlib.Core.Path.{_≡_}
 use mathlib.Core.Bool.{Bool, false, not}
 use mathlib.Core.List.{List}
-use Prim.Native.Nat.{ℕ}
-use lib.ListN.{getD}
+use Prim.Native.Nat.{ℕ, _≤_}
+use lib.ListN.{length, getD}
 use lib.Dec.{eqb}
-use Rattle.refusals.specs.declared.Verdict.the-variants.{Accepted}
+use Rattle.refusals.specs.declared.Refusal.the-variants.{TooShort, NotRealisable}
+use Rattle.refusals.specs.declared.Verdict.{Verdict}
+use Rattle.refusals.specs.declared.Verdict.the-variants.{Accepted, Refused}
 use Rattle.refusals.specs.Search.{countBelow}
 use Rattle.positions.specs.Position.{start}
 use Rattle.positions.specs.Rules.{checkSizes}
 use Rattle.run.specs.Promises.{Promises}
 use Rattle.simulation.specs.Plan.{Planned}
-use Rattle.simulation.specs.Simulation.{Realisable}
+use Rattle.planner.specs.Call.{PlanCall}
 use Rattle.worked.specs.Moves.{benchCell, benchRecipe, benchTable}
 use Rattle.worked.specs.Plans.{deadRecipe, endRecipe}
+use Rattle.worked.specs.Worthless.{laneCell, laneRecipe, shuttleTable}
 use Rattle.worked.proofs.Files.{Files, files}
 use Rattle.worked.proofs.Followed.{benchCalls, followed}
 use Rattle.worked.proofs.Limit.{Limit, limit}
 use Rattle.worked.proofs.Moves.{Moves, moves}
-use Rattle.worked.proofs.Plans.{computed, bench-planned, entry-one, entry-last, dead-recipe, one-end}
+use Rattle.worked.proofs.Plans.{computed, bench-planned}
+use Rattle.worked.proofs.Called.{Bench, bench-called, short-scratch, dead-called, end-called}
+use Rattle.worked.proofs.Shuttle.{computed as shuttle-computed, shuttle-not}
 
 pub record Table : Type 0 where
   pub of-files : Files
@@ -29,16 +34,37 @@ pub record Table : Type 0 where
   -- the bench example's table is a plan, so that its 25 entries stand exactly at the positions of the greatest simulation
   pub of-plan : Planned benchCell benchRecipe benchTable benchTable false
   pub of-positions : countBelow (λ m. not (eqb (getD benchTable m 0) 0)) 90 ≡ 25
-  -- ‡ "entry 1 is 0", in every plan
-  pub of-entry-1 : (before table : List ℕ) (refused : Bool) → Planned benchCell benchRecipe before table refused → getD table 1 0 ≡ 0
-  -- ‡ "entry 72 is 67108864", in every plan
-  pub of-entry-72 : (before table : List ℕ) (refused : Bool) → Planned benchCell benchRecipe before table refused → getD table 72 0 ≡ 67108864
-  -- ‡ "point 3 as `3,2,2,1,0,2,2` gives 15": the rules before 15 pass, and the recipe isn't realisable
-  pub of-dead-rules : checkSizes benchCell deadRecipe ≡ Accepted
-  pub of-dead-recipe : Realisable benchCell deadRecipe → ⊥
-  -- ‡ "a recipe of one end is accepted": the rules before 15 pass, and it is realisable
-  pub of-end-rules : checkSizes benchCell endRecipe ≡ Accepted
-  pub of-end-recipe : Realisable benchCell endRecipe
+  -- ‡ the four moves and the entries 72 and 1, in every table that a plan call leaves; "90 passes"
+  pub of-bench-calls :
+      (table scratch table′ scratch′ : List ℕ) (verdict : Verdict)
+      → PlanCall benchCell benchRecipe table scratch table′ scratch′ verdict
+      → 90 ≤ length table
+      → 90 ≤ length scratch
+      → Bench table′ verdict
+  -- ‡ "scratch 89 gives 14"
+  pub of-short-scratch :
+      (table scratch table′ scratch′ : List ℕ) (verdict : Verdict)
+      → PlanCall benchCell benchRecipe table scratch table′ scratch′ verdict
+      → 90 ≤ length table
+      → length scratch ≤ 89
+      → verdict ≡ Refused TooShort 0
+  -- ‡ "point 3 as `3,2,2,1,0,2,2` gives 15"
+  pub of-dead-recipe :
+      (table scratch table′ scratch′ : List ℕ) (verdict : Verdict)
+      → PlanCall benchCell deadRecipe table scratch table′ scratch′ verdict
+      → 90 ≤ length table
+      → 90 ≤ length scratch
+      → verdict ≡ Refused NotRealisable 0
+  -- ‡ "a recipe of one end is accepted"
+  pub of-end-recipe :
+      (table scratch table′ scratch′ : List ℕ) (verdict : Verdict)
+      → PlanCall benchCell endRecipe table scratch table′ scratch′ verdict
+      → 6 ≤ length table
+      → 6 ≤ length scratch
+      → verdict ≡ Accepted
+  -- worthless versions: "shuttles a pallet for ever", where the rules before 15 pass
+  pub of-shuttle-rules : checkSizes laneCell laneRecipe ≡ Accepted
+  pub of-shuttle : (before : List ℕ) (refused : Bool) → Planned laneCell laneRecipe before shuttleTable refused → ⊥
 
 pub table : Table
 table =
@@ -49,10 +75,10 @@ table =
       of-calls = followed;
       of-plan = bench-planned;
       of-positions = computed .many;
-      of-entry-1 = entry-one;
-      of-entry-72 = entry-last;
-      of-dead-rules = computed .dead-sized;
-      of-dead-recipe = dead-recipe;
-      of-end-rules = computed .end-sized;
-      of-end-recipe = one-end;
+      of-bench-calls = bench-called;
+      of-short-scratch = short-scratch;
+      of-dead-recipe = dead-called;
+      of-end-recipe = end-called;
+      of-shuttle-rules = shuttle-computed .sized;
+      of-shuttle = shuttle-not;
     }

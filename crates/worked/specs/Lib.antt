@@ -1,3 +1,4 @@
 pub mod Bench
 pub mod Moves
 pub mod Plans
+pub mod Worthless

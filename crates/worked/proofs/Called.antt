@@ -1,0 +1,197 @@
+-- What every plan call leaves of the bench example and of the two recipes that document 01 changes it to: theorems over the
+-- call's contract, whatever table and scratch were lent. Assumes nothing.
+use mathlib.Core.Path.{_≡_, refl, sym, subst, ap, _∙_}
+use mathlib.Core.Bool.{Bool, true, false, cond, not, _&&_, _||_}
+use mathlib.Core.List.{List}
+use Prim.Native.Nat.{ℕ, _+_, _<_, _≤_}
+use native.Mathlib.Omega.{arith}
+use lib.ListN.{length, getD}
+use lib.Dec.{eqb}
+use borrow.Author.Tests.{lt-ltb, le-ltb, eqb-true, eqb-false, not-true}
+use Rattle.refusals.specs.declared.Refusal.the-variants.{TooShort, NotRealisable}
+use Rattle.refusals.specs.declared.Verdict.{Verdict}
+use Rattle.refusals.specs.declared.Verdict.the-variants.{Accepted, Refused}
+use Rattle.refusals.specs.Search.{firstBelow, anyBelow, allBelow, countBelow, greatestBelow, tabulate}
+use Rattle.refusals.specs.Verdict.{before, noLine}
+use Rattle.refusals.proofs.Verdicts.{and-left, and-right}
+use Rattle.cell.specs.declared.Cell.{Cell}
+use Rattle.cell.specs.Rules as cell
+use Rattle.recipe.specs.declared.Recipe.{Recipe}
+use Rattle.recipe.specs.Rules as recipe
+use Rattle.positions.specs.Radix.{sumBelow, productBelow}
+use Rattle.positions.specs.Sizes.{resourceCount, farthest, stateCount, stateCounts, partsIn, partCount, jointCount, sizesOf}
+use Rattle.positions.specs.Position.{stateWeight, stateNumber, placeNumber, positionOf, pointAt, stateAt, placeAt, configurationAt}
+use Rattle.positions.specs.Rules.{checkSizes, rule14}
+use Rattle.steps.specs.Lines.{isAt, firstLineOf, linesOf, kindOf, thenOf, elseOf, lineOf, inAny, isTaken, isGiven}
+use Rattle.steps.specs.Carry.{standsAt, isFree, free, putThere, placed, partsMoved}
+use Rattle.steps.specs.Entry.{entryKind, letter, unused, endEntry}
+use Rattle.steps.specs.Single.{ready, lineReady, internalOpen, transferOpen, lineServes, isApart, carryOpen}
+use Rattle.simulation.specs.Simulation.{Greatest, Realisable}
+use Rattle.simulation.specs.Plan.{entryOf, Planned}
+use Rattle.planner.specs.Call.{checkPlan, Filled, PlanCall}
+use Rattle.worked.specs.Moves.{filled, benchCell, benchRecipe, benchEntry, benchTable}
+use Rattle.worked.specs.Plans.{deadRecipe, endRecipe}
+use Rattle.worked.proofs.Plans.{computed, bench-planned, entry-one, entry-last, dead-recipe, one-end}
+use Rattle.worked.proofs.Forced.{isSole, soleAt, here, entry-at, forced}
+
+-- a do or test of one line at which the bench example's table has the entry x, and no other move is open
+sole : ℕ → ℕ → Bool
+sole m x =
+    let p = pointAt (sizesOf benchCell benchRecipe) m in
+    not (eqb (kindOf benchRecipe p) 0)
+    && (eqb (linesOf benchRecipe p) 1 && (eqb (getD benchTable m 0) x && soleAt benchCell benchRecipe p (configurationAt (sizesOf benchCell benchRecipe) m) x))
+
+record Sole : Type 0 where
+  glued : sole 0 50331648 ≡ true
+  passed-on : sole 22 33554561 ≡ true
+  tested : sole 26 50331651 ≡ true
+  left : sole 50 50331652 ≡ true
+  taken-out : sole 68 50331652 ≡ true
+  dead-positions : sizesOf benchCell deadRecipe .positions ≡ 90
+  end-positions : sizesOf benchCell endRecipe .positions ≡ 6
+
+soles : Sole
+unfolding firstBelow anyBelow allBelow countBelow greatestBelow tabulate cell.isOf cell.greatestResource recipe.samePoint recipe.holdsPart recipe.opensPoint
+    recipe.pointCount sumBelow productBelow resourceCount farthest stateCount stateCounts partsIn partCount jointCount sizesOf stateWeight stateNumber placeNumber
+    positionOf pointAt stateAt placeAt configurationAt isAt firstLineOf linesOf kindOf thenOf elseOf lineOf inAny isTaken isGiven standsAt isFree free putThere
+    placed partsMoved entryKind letter unused endEntry ready lineReady internalOpen transferOpen lineServes isApart carryOpen isSole soleAt sole filled benchCell
+    benchRecipe benchEntry benchTable deadRecipe endRecipe
+soles =
+    record {
+      glued = refl;
+      passed-on = refl;
+      tested = refl;
+      left = refl;
+      taken-out = refl;
+      dead-positions = refl;
+      end-positions = refl;
+    }
+
+-- the rules before 15, for lent lengths
+module _ (c : Cell) (r : Recipe) (sized : checkSizes c r ≡ Accepted) (table scratch : ℕ) (long : sizesOf c r .positions ≤ table) where
+  check-passes : sizesOf c r .positions ≤ scratch → checkPlan c r table scratch ≡ Accepted
+  unfolding checkPlan before rule14 noLine
+  check-passes wide = rw (sized, le-ltb table (sizesOf c r .positions) long, le-ltb scratch (sizesOf c r .positions) wide)
+
+  check-short : scratch < sizesOf c r .positions → checkPlan c r table scratch ≡ Refused TooShort 0
+  unfolding checkPlan before rule14 noLine
+  check-short narrow = rw (sized, le-ltb table (sizesOf c r .positions) long, lt-ltb scratch (sizesOf c r .positions) narrow)
+
+-- any call that the rules before 15 let pass
+module _
+    (c : Cell) (r : Recipe) (table scratch table′ scratch′ : List ℕ) (verdict : Verdict)
+    (call : PlanCall c r table scratch table′ scratch′ verdict)
+    (passes : checkPlan c r (length table) (length scratch) ≡ Accepted)
+  where
+    result : Filled c r table scratch table′ scratch′ verdict
+    result = call .passed passes
+
+    accepts : Realisable c r → verdict ≡ Accepted
+    unfolding noLine
+    accepts able = go (result .refused) refl
+      where
+        go : (b : Bool) → result .refused ≡ b → verdict ≡ Accepted
+        go false is = result .answer ∙ ap (noLine NotRealisable) is
+        go true is = absurd (result .planned .refused-lacks is able)
+
+    denies : (Realisable c r → ⊥) → verdict ≡ Refused NotRealisable 0
+    unfolding noLine
+    denies unable = go (result .refused) refl
+      where
+        go : (b : Bool) → result .refused ≡ b → verdict ≡ Refused NotRealisable 0
+        go true is = result .answer ∙ ap (noLine NotRealisable) is
+        go false is = absurd (unable (result .planned .accepted-holds is))
+
+-- what every call on the bench example leaves
+pub record Bench (table : List ℕ) (verdict : Verdict) : Type 0 where
+  pub accepted : verdict ≡ Accepted
+  -- ‡ "these four moves"
+  pub entry-0 : getD table 0 0 ≡ 50331648
+  pub entry-22 : getD table 22 0 ≡ 33554561
+  pub entry-26 : getD table 26 0 ≡ 50331651
+  pub entry-50 : getD table 50 0 ≡ 50331652
+  -- ‡ "68 leads to 0": the move at which it does
+  pub entry-68 : getD table 68 0 ≡ 50331652
+  -- ‡ "entry 72 is 67108864", ‡ "entry 1 is 0"
+  pub entry-72 : getD table 72 0 ≡ 67108864
+  pub entry-1 : getD table 1 0 ≡ 0
+
+module _ (table scratch table′ scratch′ : List ℕ) (verdict : Verdict) where
+  module _ (call : PlanCall benchCell benchRecipe table scratch table′ scratch′ verdict) (long : 90 ≤ length table) where
+    fits : sizesOf benchCell benchRecipe .positions ≤ length table
+    fits = omega (arith, computed .positions)
+
+    -- ‡ "scratch 89 gives 14", and any shorter one
+    pub short-scratch : length scratch ≤ 89 → verdict ≡ Refused TooShort 0
+    short-scratch narrow =
+        let is = check-short benchCell benchRecipe (computed .sized) (length table) (length scratch) fits (omega (arith, computed .positions)) in
+        call .refused-first (λ passes. refused-not (sym is ∙ passes)) .answer ∙ is
+      where
+        refused-not : Refused TooShort 0 ≡ Accepted → ⊥
+        refused-not is = let z : _≡_ {A = ℕ} 0 1 = cc in omega arith
+
+    -- ‡ "90 passes"
+    module _ (wide : 90 ≤ length scratch) where
+      passes : checkPlan benchCell benchRecipe (length table) (length scratch) ≡ Accepted
+      passes = check-passes benchCell benchRecipe (computed .sized) (length table) (length scratch) fits (omega (arith, computed .positions))
+
+      plan : Filled benchCell benchRecipe table scratch table′ scratch′ verdict
+      plan = result benchCell benchRecipe table scratch table′ scratch′ verdict call passes
+
+      move : (m x : ℕ) → m < 90 → 0 < x → sole m x ≡ true → getD table′ m 0 ≡ x
+      unfolding sole
+      move m x low some test =
+          let under : m < sizesOf benchCell benchRecipe .positions = omega (arith, computed .positions) in
+          let at-m = here benchCell benchRecipe (computed .cell-passes) (computed .recipe-passes) benchTable benchTable false bench-planned m under in
+          let is : getD benchTable m 0 ≡ x = eqb-true _ x (search (and-left, and-right)) in
+          forced benchCell benchRecipe (computed .cell-passes) (computed .recipe-passes) table table′ (plan .refused) (plan .planned) m under x
+          (bench-planned .entry-holds _ _ at-m (λ zero. omega (arith, is, sym (entry-at benchCell benchRecipe (computed .cell-passes) (computed .recipe-passes) benchTable benchTable false bench-planned m under) ∙ zero)))
+          (eqb-false _ 0 (not-true _ (and-left _ _ test)))
+          (eqb-true _ 1 (search (and-left, and-right)))
+          (search (and-left, and-right))
+
+      pub bench-called : Bench table′ verdict
+      bench-called =
+          record {
+            accepted = accepts benchCell benchRecipe table scratch table′ scratch′ verdict call passes (bench-planned .accepted-holds refl);
+            entry-0 = move 0 50331648 (omega arith) (omega arith) (soles .glued);
+            entry-22 = move 22 33554561 (omega arith) (omega arith) (soles .passed-on);
+            entry-26 = move 26 50331651 (omega arith) (omega arith) (soles .tested);
+            entry-50 = move 50 50331652 (omega arith) (omega arith) (soles .left);
+            entry-68 = move 68 50331652 (omega arith) (omega arith) (soles .taken-out);
+            entry-72 = entry-last table table′ (plan .refused) (plan .planned);
+            entry-1 = entry-one table table′ (plan .refused) (plan .planned);
+          }
+
+      -- a planner that "answers 15 always" does not keep the contract
+      pub not-always-15 : verdict ≡ Refused NotRealisable 0 → ⊥
+      not-always-15 is = let both : Refused NotRealisable 0 ≡ Accepted = sym is ∙ bench-called .accepted in refused-not both
+        where
+          refused-not : Refused NotRealisable 0 ≡ Accepted → ⊥
+          refused-not e = let z : _≡_ {A = ℕ} 0 1 = cc in omega arith
+
+      -- nor does one that "accepts all, end entries everywhere"
+      pub not-ends-everywhere : getD table′ 0 0 ≡ 67108864 → ⊥
+      not-ends-everywhere is = omega (arith, bench-called .entry-0)
+
+  -- ‡ "point 3 as `3,2,2,1,0,2,2` gives 15"
+  pub dead-called :
+      PlanCall benchCell deadRecipe table scratch table′ scratch′ verdict
+      → 90 ≤ length table
+      → 90 ≤ length scratch
+      → verdict ≡ Refused NotRealisable 0
+  dead-called call long wide =
+      denies benchCell deadRecipe table scratch table′ scratch′ verdict call
+      (check-passes benchCell deadRecipe (computed .dead-sized) (length table) (length scratch) (omega (arith, soles .dead-positions)) (omega (arith, soles .dead-positions)))
+      dead-recipe
+
+  -- ‡ "a recipe of one end is accepted"
+  pub end-called :
+      PlanCall benchCell endRecipe table scratch table′ scratch′ verdict
+      → 6 ≤ length table
+      → 6 ≤ length scratch
+      → verdict ≡ Accepted
+  end-called call long wide =
+      accepts benchCell endRecipe table scratch table′ scratch′ verdict call
+      (check-passes benchCell endRecipe (computed .end-sized) (length table) (length scratch) (omega (arith, soles .end-positions)) (omega (arith, soles .end-positions)))
+      one-end
