@@ -1,12 +1,12 @@
 /*
- * The cell planner's C interface: the readers of the cell file and the recipe file, and the run over a
- * stored table.
+ * The cell planner's C interface: the readers of the cell file and the recipe file, the planner, and the
+ * run over a table.
  *
  * A slice of bytes is passed as a pointer and a length in bytes, a table as a pointer and its number of
  * entries (elements, not bytes). No pointer may be NULL, also where the length is 0. What a call may
- * write (a reader's record, the run of fresh and of report) must not overlap anything else that it is
- * handed. No call keeps a pointer, and calls from several threads need no lock as long as none writes
- * what another one uses.
+ * write (a reader's record, the planner's table and scratch, the run of fresh and of report) must not
+ * overlap anything else that it is handed. No call keeps a pointer, and calls from several threads need
+ * no lock as long as none writes what another one uses.
  *
  * A cell record has CELLPLAN_CELL_BYTES bytes: byte 0 is the line count, then follow 64 times
  *     resource, from, act, arg, to.
@@ -57,9 +57,10 @@
  *     12  Recipe: a do's `then` or a test's `then` or `else` is N or more, N being the number of
  *         points.
  *     13  M exceeds CELLPLAN_MOST_POSITIONS.
- *     14  The table has fewer than M entries. Of a reader and of fresh: the buffer lent for the record
- *         or the run is too short. That is tried before all else, names no line, and leaves the buffer
- *         as it was.
+ *     14  The table has fewer than M entries, or the planner's scratch fewer than M bytes. Of a reader
+ *         and of fresh: the buffer lent for the record or the run is too short. That is tried before
+ *         all else, names no line, and leaves the buffer as it was.
+ *     15  Planner: the cell cannot build the recipe. The table is filled all the same.
  *     16  Run: a point of N or more, a state or place outside its count, or a number other than 0 for a
  *         resource or part that isn't there.
  *     17  Report: the outcome is above 1.
@@ -67,7 +68,7 @@
  *     19  Report: the run is at an end.
  * A call that is handed records tries the cell's rules from 3 on, then the recipe's from 3 on, then
  * those from 13 on that are its own. A call that refuses changes nothing, but for a reader, which writes
- * its record.
+ * its record, and for the planner where it refuses with 15.
  */
 #ifndef CELLPLAN_H
 #define CELLPLAN_H
@@ -127,6 +128,18 @@ size_t cellplan_line_length(const uint8_t *file, size_t file_length, size_t n);
  */
 uint32_t cellplan_check(const uint8_t *cell, size_t cell_length,
                         const uint8_t *recipe, size_t recipe_length);
+
+/*
+ * Plans: fills the first M entries of the table. An entry is other than 0 exactly at the positions from
+ * which the recipe can be followed to an end, or for ever, whatever the outcomes of its tests; it is then
+ * the move to make there. The result is 0, or the refusal, of which those from 13 on are tried in the
+ * order 13, 14, 15; it is 15 if position 0 has entry 0. Accepted, and refused with 15, the entries past M
+ * keep their content, and what the scratch then holds is free; refused otherwise, both stay as they were.
+ */
+uint32_t cellplan_plan(const uint8_t *cell, size_t cell_length,
+                       const uint8_t *recipe, size_t recipe_length,
+                       uint32_t *table, size_t table_entries,
+                       uint8_t *scratch, size_t scratch_length);
 
 /*
  * Writes the fresh run: point 0, every resource in state 0, every part outside. The result is 0, or 14

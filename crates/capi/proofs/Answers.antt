@@ -1,5 +1,6 @@
--- The two answers of a call that writes: the lent buffer is too short, or it holds the record or the run. Assumes nothing.
-use mathlib.Core.Path.{_≡_, ap, _∙_}
+-- The two answers of a call that writes: the lent buffer is too short, or it holds the record or the run; and the plan call's.
+-- Assumes nothing.
+use mathlib.Core.Path.{_≡_, ap, _∙_, subst}
 use mathlib.Core.List.{List, _++_}
 use Prim.Native.Nat.{ℕ, _<_, _≤_}
 use lib.ListN.{length, drop}
@@ -8,9 +9,12 @@ use Rattle.refusals.specs.Refusal.{numberOf}
 use Rattle.refusals.specs.declared.Refusal.the-variants.{TooShort}
 use Rattle.refusals.specs.declared.Verdict.{Verdict}
 use Rattle.refusals.specs.Verdict.{refusalIn}
+use Rattle.cell.specs.declared.Cell.{Cell}
+use Rattle.recipe.specs.declared.Recipe.{Recipe}
 use Rattle.run.specs.declared.Report.{Report}
+use Rattle.planner.specs.Call.{PlanCall}
 use Rattle.capi.specs.Encoding.{codeOf, runBytes}
-use Rattle.capi.specs.Answer.{Answered, Reported, Advanced}
+use Rattle.capi.specs.Answer.{Answered, Reported, Advanced, PlanAnswered}
 
 module _ (verdict : Verdict) (bytes : List ℕ) (size : ℕ) (entry : List ℕ) where
   pub too-short : (answer : ℕ) → length entry < size → answer ≡ numberOf TooShort → Answered verdict bytes size entry entry answer
@@ -36,3 +40,20 @@ module _ (report answer : Report) (entry : List ℕ) (refusal : ℕ) (same : ans
   pub report-put : (exit : List ℕ) → 15 ≤ length entry → exit ≡ runBytes (answer .run) ++ drop 15 entry → Reported report entry exit refusal
   report-put exit room put =
       record { answer-is = told report answer refusal same number; run-is = rw (le-ltb (length entry) 15 room) (put ∙ ap (λ (r : Report). runBytes (r .run) ++ drop 15 entry) same) }
+
+-- the plan call on the records that the bytes hold
+pub plan-answered :
+    {c c′ : Cell} {r r′ : Recipe} {table scratch table′ scratch′ : List ℕ} {verdict : Verdict} {answer : ℕ}
+    → c ≡ c′
+    → r ≡ r′
+    → answer ≡ refusalIn verdict
+    → PlanCall c r table scratch table′ scratch′ verdict
+    → PlanAnswered c′ r′ table scratch table′ scratch′ answer
+plan-answered {c′ = c′} {r = r} {table = table} {scratch = scratch} {table′ = table′} {scratch′ = scratch′} {verdict = verdict} cell-is recipe-is number call =
+    record {
+      verdict = verdict;
+      answer-is = number;
+      call =
+          subst (λ (y : Recipe). PlanCall c′ y table scratch table′ scratch′ verdict) recipe-is
+          (subst (λ (x : Cell). PlanCall x r table scratch table′ scratch′ verdict) cell-is call);
+    }

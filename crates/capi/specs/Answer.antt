@@ -9,10 +9,13 @@ use Rattle.refusals.specs.Refusal.{numberOf}
 use Rattle.refusals.specs.declared.Refusal.the-variants.{TooShort}
 use Rattle.refusals.specs.declared.Verdict.{Verdict}
 use Rattle.refusals.specs.Verdict.{refusalIn}
+use Rattle.cell.specs.declared.Cell.{Cell}
+use Rattle.recipe.specs.declared.Recipe.{Recipe}
 use Rattle.run.specs.declared.Move.{Move}
 use Rattle.run.specs.declared.Place.{Place}
 use Rattle.run.specs.declared.Report.{Report}
 use Rattle.run.specs.declared.Run.{Run}
+use Rattle.planner.specs.Call.{PlanCall}
 use Rattle.capi.specs.Encoding.{codeOf, runBytes}
 
 -- "A buffer lent for the answer .. that is too short gets 14, line 0, before anything else, and nothing is written";
@@ -38,3 +41,9 @@ pub record Reported (report : Report) (entry exit : List ℕ) (answer : ℕ) : T
 pub record Advanced (report : Report) (exit : Run) (answer : ℕ) : Type 0 where
   pub answer-is : answer ≡ refusalIn (report .verdict)
   pub run-is : exit ≡ report .run
+
+-- "refusal or 0": the number of the verdict with which the plan call leaves the table and the scratch so
+pub record PlanAnswered (c : Cell) (r : Recipe) (table scratch table′ scratch′ : List ℕ) (answer : ℕ) : Type 0 where
+  pub verdict : Verdict
+  pub answer-is : answer ≡ refusalIn verdict
+  pub call : PlanCall c r table scratch table′ scratch′ verdict

@@ -12,7 +12,7 @@ ghost use Rattle.refusals.specs.Verdict.{refusalIn};
 ghost use Rattle.positions.specs.Rules.{checkSizes};
 ghost use Rattle.run.specs.Calls.{freshRun, nextMove, reportOf, placeOf};
 ghost use Rattle.capi.specs.Encoding.{codeOf, cellBytes, recipeBytes, cellFrom, recipeFrom, runBytes, runFrom};
-ghost use Rattle.capi.specs.Answer.{Answered, moveCode, placeCode, Reported, Advanced};
+ghost use Rattle.capi.specs.Answer.{Answered, moveCode, placeCode, Reported, Advanced, PlanAnswered};
 use refusals::Refusal;
 use refusals::Verdict;
 use run::Run;
@@ -94,6 +94,20 @@ pub extern "C" fn cellplan_check(cell: &[u8], recipe: &[u8]) -> u32
     ensures { λ r. ⌜ r ≡ refusalIn (checkSizes (cellFrom (now (cell .entry))) (recipeFrom (now (recipe .entry)))) ⌝ }
 {
     let verdict = positions::check(get::get_cell(cell), get::get_recipe(recipe));
+    refusal_number(verdict) as u32
+}
+
+// Fills a table with a plan, or refuses.
+#[no_mangle]
+pub extern "C" fn cellplan_plan(
+    cell: &[u8],
+    recipe: &[u8],
+    table: &mut [u32],
+    scratch: &mut [u8],
+) -> u32
+    ensures { λ r. ⌜ PlanAnswered (cellFrom (now (cell .entry))) (recipeFrom (now (recipe .entry))) (now (table .entry)) (now (scratch .entry)) (now (table .exit)) (now (scratch .exit)) r ⌝ }
+{
+    let verdict = planner::plan(get::get_cell(cell), get::get_recipe(recipe), table, scratch);
     refusal_number(verdict) as u32
 }
 
