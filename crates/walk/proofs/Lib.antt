@@ -1,0 +1,7 @@
+-- Text put piece after piece (Pieces), the numbers of positions (Located), the answers to a byte (Answers), input that
+-- comes in parts (Parts), and printed numbers read back (ReadBack).
+mod Pieces
+mod Located
+mod Answers
+mod Parts
+mod ReadBack
