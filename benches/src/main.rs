@@ -1,17 +1,28 @@
-//! Times the library through the C interface beside the independent program: the readers, and the
-//! calls of a run.
+//! Times the library through the C interface beside the independent program: the readers, the calls of
+//! a run, and the planner, this also beside the same search in plain Rust.
 //!
-//! Run with `cargo run --release --offline -p benches`.
+//! Run with `cargo run --release --offline -p benches`, followed by `readers`, `runs` or `plans` for
+//! these alone.
 
+mod plain;
+mod plans;
 mod readers;
 mod runs;
 
+use std::env;
 use std::time::{Duration, Instant};
+
+/// The parts of the benchmark by their names.
+const PARTS: [(&str, fn()); 3] = [
+    ("readers", readers::measure_all),
+    ("runs", runs::measure_all),
+    ("plans", plans::measure_all),
+];
 
 /// How long one round takes at least. Short rounds find the quiet moments of a busy machine.
 const ROUND: Duration = Duration::from_millis(2);
 
-/// How long the two are measured on one line, and with how many rounds of each at least.
+/// How long a line is measured, and with how many rounds of each program at least.
 const MEASURE: Duration = Duration::from_secs(2);
 const LEAST_ROUNDS: usize = 7;
 
@@ -21,27 +32,35 @@ type Timed<'a> = &'a mut dyn FnMut(usize) -> Duration;
 fn main() {
     println!("The library through its C interface, and the independent program on the same bytes.");
     println!(
-        "Each line is measured for {} s in rounds of at least {} ms, the two turn by turn; the best",
+        "Each line is measured for {} s in rounds of at least {} ms, turn by turn; the best",
         MEASURE.as_secs(),
         ROUND.as_millis()
     );
     println!("round of each counts. Buffers are reused and not cleared between calls.");
-    println!();
-    readers::measure_all();
-    println!();
-    runs::measure_all();
+    let named: Vec<String> = env::args().skip(1).collect();
+    for (name, measure_all) in PARTS {
+        if named.is_empty() || named.iter().any(|other| other == name) {
+            println!();
+            measure_all();
+        }
+    }
 }
 
 /// The best time of a call in nanoseconds: the library's and the independent program's.
-fn best_times(mut both: [Timed; 2]) -> [f64; 2] {
-    let calls = both.each_mut().map(|timed| calls_in_a_round(timed));
-    let mut best = [f64::INFINITY; 2];
+fn best_times(both: [Timed; 2]) -> [f64; 2] {
+    best_times_of(LEAST_ROUNDS, both)
+}
+
+/// The best time of a call for each of several programs, measured in so many rounds of each at least.
+fn best_times_of<const N: usize>(least_rounds: usize, mut all: [Timed; N]) -> [f64; N] {
+    let calls = all.each_mut().map(|timed| calls_in_a_round(timed));
+    let mut best = [f64::INFINITY; N];
     let mut rounds = 0;
     let start = Instant::now();
-    while rounds < LEAST_ROUNDS || start.elapsed() < MEASURE {
+    while rounds < least_rounds || start.elapsed() < MEASURE {
         rounds += 1;
-        for k in 0..both.len() {
-            let time = both[k](calls[k]).as_nanos() as f64;
+        for k in 0..N {
+            let time = all[k](calls[k]).as_nanos() as f64;
             best[k] = best[k].min(time / calls[k] as f64);
         }
     }

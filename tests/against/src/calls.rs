@@ -2,12 +2,17 @@
 //! signatures: on the same bytes, with the same results.
 
 use crate::{c, RunRecord};
-use independent::{cell_of_bytes, check, recipe_of_bytes, run_bytes, run_of_bytes, Run, RUN_BYTES};
+use independent::{
+    cell_of_bytes, check, plan, recipe_of_bytes, run_bytes, run_of_bytes, Run, RUN_BYTES,
+};
 
-/// The five calls as the C interface has them.
+/// The six calls as the C interface has them.
 pub trait Calls {
     /// The first refusal of the rules 3 to 13, or 0.
     fn check(cell: &[u8], recipe: &[u8]) -> u32;
+
+    /// The refusal, or 0; the table is filled if that is 0 or 15.
+    fn plan(cell: &[u8], recipe: &[u8], table: &mut [u32], scratch: &mut [u8]) -> u32;
 
     /// 14 for a buffer that is too short, or 0 with the fresh run in it.
     fn fresh(run: &mut [u8]) -> u32;
@@ -51,10 +56,25 @@ impl Library {
 }
 
 // SAFETY, for every call: the pointers and lengths are those of slices that outlive the call, and
-// the one lent for writing overlaps no other.
+// those lent for writing overlap no other.
 impl Calls for Library {
     fn check(cell: &[u8], recipe: &[u8]) -> u32 {
         unsafe { c::cellplan_check(cell.as_ptr(), cell.len(), recipe.as_ptr(), recipe.len()) }
+    }
+
+    fn plan(cell: &[u8], recipe: &[u8], table: &mut [u32], scratch: &mut [u8]) -> u32 {
+        unsafe {
+            c::cellplan_plan(
+                cell.as_ptr(),
+                cell.len(),
+                recipe.as_ptr(),
+                recipe.len(),
+                table.as_mut_ptr(),
+                table.len(),
+                scratch.as_mut_ptr(),
+                scratch.len(),
+            )
+        }
     }
 
     fn fresh(run: &mut [u8]) -> u32 {
@@ -113,6 +133,11 @@ pub struct Independent;
 impl Calls for Independent {
     fn check(cell: &[u8], recipe: &[u8]) -> u32 {
         check(&cell_of_bytes(cell), &recipe_of_bytes(recipe)).into()
+    }
+
+    fn plan(cell: &[u8], recipe: &[u8], table: &mut [u32], scratch: &mut [u8]) -> u32 {
+        let (cell, recipe) = (cell_of_bytes(cell), recipe_of_bytes(recipe));
+        plan(&cell, &recipe, table, scratch.len()).into()
     }
 
     fn fresh(run: &mut [u8]) -> u32 {

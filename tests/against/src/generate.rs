@@ -70,6 +70,15 @@ pub fn record<F: Format>(rows: &[Vec<u32>]) -> Vec<u8> {
     record
 }
 
+/// The value lines of a record.
+pub fn rows<F: Format>(record: &[u8]) -> Rows {
+    let lines = record[1..].chunks(F::GREATEST.len());
+    lines
+        .take(record[0].into())
+        .map(|line| line.iter().map(|&number| number.into()).collect())
+        .collect()
+}
+
 fn push_number(text: &mut Vec<u8>, number: u32) {
     let start = text.len();
     let mut rest = number;

@@ -3,8 +3,11 @@
 //! calls on records and runs.
 
 pub mod calls;
+pub mod damage;
 pub mod generate;
+pub mod lists;
 pub mod pairs;
+pub mod plans;
 pub mod random;
 pub mod rounds;
 
@@ -13,7 +16,7 @@ pub use independent;
 
 use independent::{
     cell_bytes, read_cell, read_recipe, recipe_bytes, Refusal, CELL_BYTES, CELL_NAMES,
-    RECIPE_BYTES, RECIPE_NAMES,
+    RECIPE_BYTES, RECIPE_NAMES, RUN_BYTES,
 };
 
 /// The refusal of a lent buffer that is too short.
@@ -40,6 +43,16 @@ mod c {
             cell_length: usize,
             recipe: *const u8,
             recipe_length: usize,
+        ) -> u32;
+        pub fn cellplan_plan(
+            cell: *const u8,
+            cell_length: usize,
+            recipe: *const u8,
+            recipe_length: usize,
+            table: *mut u32,
+            table_entries: usize,
+            scratch: *mut u8,
+            scratch_length: usize,
         ) -> u32;
         pub fn cellplan_fresh(run: *mut u8, run_length: usize) -> u32;
         pub fn cellplan_next_move(
@@ -102,6 +115,14 @@ impl RunRecord {
             state: run.get(1..7)?.try_into().ok()?,
             place: run.get(7..15)?.try_into().ok()?,
         })
+    }
+
+    /// The fields in order.
+    pub fn bytes(&self) -> [u8; RUN_BYTES] {
+        let mut bytes = [self.point; RUN_BYTES];
+        bytes[1..7].copy_from_slice(&self.state);
+        bytes[7..].copy_from_slice(&self.place);
+        bytes
     }
 }
 

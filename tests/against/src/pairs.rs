@@ -5,7 +5,8 @@ use crate::generate::{self, Rows, DO, END, IN, INTERNAL, OPERATION, OUT, TEST};
 use crate::random::Random;
 use crate::{CellFile, RecipeFile};
 use independent::{
-    entry_of, is_open, kind_of, letters_of, Cell, Configuration, Recipe, Run, Sizes,
+    cell_bytes, entry_of, is_open, kind_of, letters_of, recipe_bytes, Cell, Configuration, Recipe,
+    Run, Sizes,
 };
 use independent::{CARRY, INTERNAL as INTERNAL_MOVE, STAY, TRANSFER};
 
@@ -16,6 +17,14 @@ pub struct Pair {
 }
 
 impl Pair {
+    /// The lines of two records.
+    pub fn of(cell: &Cell, recipe: &Recipe) -> Pair {
+        Pair {
+            cell: generate::rows::<CellFile>(&cell_bytes(cell)),
+            recipe: generate::rows::<RecipeFile>(&recipe_bytes(recipe)),
+        }
+    }
+
     pub fn cell_bytes(&self) -> Vec<u8> {
         generate::record::<CellFile>(&self.cell)
     }

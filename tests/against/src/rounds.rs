@@ -24,12 +24,7 @@ pub struct Round {
 
 impl Display for Round {
     fn fmt(&self, f: &mut Formatter) -> Result {
-        for (name, record, columns) in [("cell", &self.cell, 5), ("recipe", &self.recipe, 7)] {
-            let (count, lines) = record.split_first().unwrap_or((&0, &[]));
-            let lines: Vec<&[u8]> = lines.chunks(columns).take((*count).into()).collect();
-            let length = record.len();
-            writeln!(f, "{name} of {length} bytes, {count} lines: {lines:?}")?;
-        }
+        show_records(f, &self.cell, &self.recipe)?;
         writeln!(f, "run {:?}", self.run)?;
         if let Some(position) = self.position() {
             writeln!(f, "position {position}")?;
@@ -42,6 +37,17 @@ impl Display for Round {
         } = self;
         write!(f, "{entries} entries, outcome {outcome}, part {part}")
     }
+}
+
+/// Writes the lines of two records.
+pub(crate) fn show_records(f: &mut Formatter, cell: &[u8], recipe: &[u8]) -> Result {
+    for (name, record, columns) in [("cell", cell, 5), ("recipe", recipe, 7)] {
+        let (count, lines) = record.split_first().unwrap_or((&0, &[]));
+        let lines: Vec<&[u8]> = lines.chunks(columns).take((*count).into()).collect();
+        let length = record.len();
+        writeln!(f, "{name} of {length} bytes, {count} lines: {lines:?}")?;
+    }
+    Ok(())
 }
 
 impl Round {

@@ -52,6 +52,12 @@ fn follow_table() -> &'static Path {
     PROGRAM.get_or_init(|| compile("follow"))
 }
 
+/// The line screen, compiled once for all tests.
+fn line_screen() -> &'static Path {
+    static PROGRAM: OnceLock<PathBuf> = OnceLock::new();
+    PROGRAM.get_or_init(|| compile("line_screen"))
+}
+
 fn expected(name: &str) -> String {
     let stored = Path::new(env!("CARGO_MANIFEST_DIR")).join(format!("expected/{name}.txt"));
     fs::read_to_string(stored).expect("the expected output is there")
@@ -103,6 +109,14 @@ fn follow(name: &str, [cell, recipe, table]: [&str; 3], outcomes: &str) {
     compare(name, Command::new(follow_table()).args(files).arg(outcomes));
 }
 
+/// Plans for these files, and follows the plan.
+fn screen(name: &str, [cell, recipe]: [&str; 2], outcomes: &[&str]) {
+    let files = [("cell.csv", Some(cell)), ("recipe.csv", Some(recipe))];
+    let folder = folder(name, &files);
+    let files = files.map(|(file, _)| folder.join(file));
+    compare(name, Command::new(line_screen()).args(files).args(outcomes));
+}
+
 #[test]
 fn the_bench_example() {
     check("bench", Some(BENCH_CELL), Some(BENCH_RECIPE));
@@ -110,7 +124,7 @@ fn the_bench_example() {
 
 #[test]
 fn the_scripts_build_and_run_the_examples() {
-    for (script, name) in [("run", "bench"), ("follow", "follow")] {
+    for (script, name) in [("run", "bench"), ("follow", "follow"), ("screen", "screen")] {
         let output = Command::new(root().join("examples/c").join(script))
             .current_dir(env!("CARGO_TARGET_TMPDIR"))
             .output()
@@ -178,4 +192,33 @@ fn a_cell_and_a_recipe_that_are_too_great_together() {
     let cell = format!("resource,from,act,arg,to\n{states}");
     let recipe = BENCH_RECIPE.replace("0,1,1,0,1,1,0", "0,1,1,0,128,1,0");
     follow("great", [&cell, &recipe, BENCH_TABLE], "0010");
+}
+
+#[test]
+fn the_bench_example_planned_and_shown_in_words() {
+    let files = [BENCH_CELL, BENCH_RECIPE];
+    screen("screen", files, &["0", "0", "1", "0"]);
+    screen("screen_rework", files, &["0", "0", "0", "0", "300"]);
+}
+
+#[test]
+fn internal_work_parallel_operations_and_a_report_at_the_end() {
+    let cell = "resource,from,act,arg,to\n0,0,1,7,1\n1,0,0,9,1\n1,1,1,8,0\n";
+    let recipe = "point,kind,op,takes,gives,then,else\n\
+                  0,1,7,0,1,1,0\n0,1,8,0,2,1,0\n1,0,0,0,0,0,0\n";
+    screen("screen_end", [cell, recipe], &["0", "0", "1"]);
+}
+
+#[test]
+fn files_that_the_screen_refuses() {
+    let cell = BENCH_CELL.replace("1,0,2,5,1", "1,0,2,6,1");
+    screen("screen_port", [&cell, BENCH_RECIPE], &["0"]);
+    screen("screen_names", [BENCH_CELL, BENCH_CELL], &["0"]);
+}
+
+#[test]
+fn a_recipe_that_strands_a_part() {
+    // The station has left the state in which it can test, so that a failed test has no way on.
+    let recipe = BENCH_RECIPE.replace("3,1,3,1,0,0,0", "3,2,2,1,0,2,2");
+    screen("screen_stranded", [BENCH_CELL, &recipe], &["0"]);
 }

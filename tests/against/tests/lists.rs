@@ -1,12 +1,11 @@
 //! Lists of the library's calls, each on the run that the last report left, against the independent
 //! program's book.
 
-use against::calls::{Calls, Library};
+use against::lists::{Form, List, Seen};
 use against::pairs;
 use against::random::Random;
-use against::rounds::{accepted, Round, Table};
-use independent::{kind_of, run_bytes, Book, Cell, Recipe, Run, Sizes, CARRY, RUN_BYTES};
-use std::fmt::Debug;
+use against::rounds::{accepted, Table};
+use independent::{kind_of, Book, Cell, Recipe, Run, Sizes, CARRY};
 
 /// Pairs of a cell and a recipe, lists over each, and calls in a list.
 const PAIRS: usize = 300;
@@ -45,67 +44,6 @@ fn seeded_table((cell, recipe, sizes): &(Cell, Recipe, Sizes), random: &mut Rand
     (0..sizes.positions).map(entry).collect()
 }
 
-/// What was seen: moves issued by kind, and refusals.
-#[derive(Default)]
-struct Seen {
-    issued: [usize; 5],
-    refusals: [usize; 20],
-}
-
-/// What all calls of a list are handed.
-struct List<'a> {
-    cell: &'a [u8],
-    recipe: &'a [u8],
-    table: &'a [u32],
-}
-
-impl List<'_> {
-    /// Wants a call's answer to be the book's; else says what the call was handed.
-    fn assert_same<T: PartialEq + Debug>(&self, library: T, book: T, run: &[u8], outcome: u8) {
-        let round = || Round {
-            cell: self.cell.to_vec(),
-            recipe: self.recipe.to_vec(),
-            run: run.to_vec(),
-            entries: self.table.len(),
-            outcome,
-            part: 0,
-        };
-        let same = library == book;
-        assert!(same, "library {library:?}, book {book:?}\n{}", round());
-    }
-
-    /// Feeds one list of calls, refused ones included, to the library and to the book.
-    fn compare(&self, run: &mut [u8], book: &mut Book, random: &mut Random, seen: &mut Seen) {
-        let List {
-            cell,
-            recipe,
-            table,
-        } = self;
-        for _ in 0..CALLS {
-            let expected = book.next_move();
-            let kind = kind_of(expected.entry) as usize;
-            if random.below(3) == 0 {
-                let answer = Library::next_move(cell, recipe, table, run);
-                let expected = (u64::from(expected.refusal) << 32) + u64::from(expected.entry);
-                self.assert_same(answer, expected, run, 0);
-                continue;
-            }
-            let outcome = match random.below(8) {
-                0 => random.byte(),
-                _ => random.below(2) as u8,
-            };
-            let before = run.to_vec();
-            let refusal = Library::report(cell, recipe, table, run, outcome);
-            let expected = book.report(outcome);
-            let left = run_bytes(&expected.run);
-            let expected = (expected.refusal.into(), &left[..]);
-            self.assert_same((refusal, &run[..]), expected, &before, outcome);
-            seen.refusals[refusal as usize] += 1;
-            seen.issued[kind] += usize::from(refusal == 0);
-        }
-    }
-}
-
 /// Lists over one pair, from a fresh run and from other positions.
 fn compare_pair(random: &mut Random, seen: &mut Seen) {
     let pair = pairs::good_pair(MOST_POSITIONS, random);
@@ -118,17 +56,13 @@ fn compare_pair(random: &mut Random, seen: &mut Seen) {
         recipe: &recipe,
         table: entries,
     };
-    let mut fresh = [0xff; RUN_BYTES];
-    assert_eq!(Library::fresh(&mut fresh), 0);
     for n in 0..LISTS {
-        let (mut run, mut book) = if n % 4 == 0 {
-            (fresh, Book::new(&records.0, &records.1, entries))
-        } else {
-            let position = random.below(entries.len()) as u64;
-            let book = Book::from_position(&records.0, &records.1, entries, position);
-            (run_bytes(&book.run()), book)
+        let position = match n % 4 {
+            0 => 0,
+            _ => random.below(entries.len()) as u64,
         };
-        list.compare(&mut run, &mut book, random, seen);
+        let mut book = Book::from_position(&records.0, &records.1, entries, position);
+        seen.add(&list.compare(CALLS, Form::Value, &mut book, random));
     }
     table.assert_unchanged(entries.len());
 }
@@ -140,8 +74,8 @@ fn seeded_lists_of_calls() {
     for _ in 0..PAIRS {
         compare_pair(&mut random, &mut seen);
     }
-    println!("reports by refusal {:?}", seen.refusals);
+    println!("reports by refusal {:?}", seen.reports);
     println!("issued by kind {:?}", seen.issued);
     assert!(seen.issued[1..=3].iter().all(|&times| times >= LEAST_SEEN));
-    assert!(seen.refusals[17..].iter().all(|&times| times >= LEAST_SEEN));
+    assert!(seen.reports[17..].iter().all(|&times| times >= LEAST_SEEN));
 }

@@ -127,32 +127,6 @@ pub(crate) fn some_table(cell: &Cell, recipe: &Recipe, random: &mut Random) -> V
         .collect()
 }
 
-/// As many positions as there may be, and a way from nearly all of them: three stations that do
-/// everything in every state; five parts that are given, tested and taken.
-pub(crate) fn works() -> (Cell, Recipe) {
-    let mut lines = vec![];
-    for (k, state) in (0..12).map(|n| (n / 4, n % 4)) {
-        let next = (state + 1) % 4;
-        lines.push(format!("{k},{state},1,{},{next}", state % 2));
-        lines.push(format!("{k},{state},0,0,{}", (state + 2) % 4));
-        lines.push(format!("{k},{state},3,{k},{next}"));
-        lines.push(format!("{k},{state},2,{},{next}", (k + 2) % 3));
-    }
-    let mut points = vec![];
-    for (point, part) in (0..15).map(|n| (n, 1 << (n % 5))) {
-        let (op, then) = (point % 2, point + 1);
-        points.push(match point / 5 {
-            0 => format!("{point},1,{op},0,{part},{then},0"),
-            1 => format!("{point},2,{op},{part},0,{then},{}", 5 + point % 3),
-            _ => format!("{point},1,{op},{part},0,{then},0"),
-        });
-    }
-    points.push("15,0,0,0,0,0,0".to_string());
-    let lines: Vec<&str> = lines.iter().map(String::as_str).collect();
-    let points: Vec<&str> = points.iter().map(String::as_str).collect();
-    (cell_of(&lines), recipe_of(&points))
-}
-
 /// What the planner answers for a cell and a recipe, and its table.
 pub(crate) fn planned(cell: &Cell, recipe: &Recipe) -> (u8, Vec<u32>) {
     let positions = Sizes::of(cell, recipe).positions as usize;

@@ -3,7 +3,10 @@
 //! more.
 
 mod cell_lines;
+mod great;
 mod walk;
+
+pub use great::{dense_pair, long_ways_pair, mixed_pair, odometer_pair};
 
 use crate::cell::{cell_of_bytes, Cell, CELL_BYTES};
 use crate::random::Random;

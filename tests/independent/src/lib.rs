@@ -1,7 +1,7 @@
-//! An independent program for the cell and recipe files, the planner, the run over a stored table and
-//! the book that the run is held against, written from their description alone; with a judge of planned
-//! tables and a generator of cells and recipes. The tests compare the proved library with it, and the
-//! benchmark measures against it.
+//! An independent program for the cell and recipe files, the planner, the run over a stored table, the
+//! book that the run is held against and the program `walk`, written from their description alone; with
+//! a judge of planned tables and a generator of cells and recipes. The tests compare the proved library
+//! and program with it, and the benchmark measures against it.
 
 mod book;
 mod cell;
@@ -18,14 +18,15 @@ mod simulation;
 mod sizes;
 mod step;
 mod table;
+mod walk;
 
 pub use book::Book;
 pub use cell::{
     cell_bytes, cell_of_bytes, check_cell, read_cell, Cell, CellReading, CELL_BYTES, CELL_NAMES,
 };
 pub use entry::{entry_of, is_open, kind_of, letters_of, CARRY, INTERNAL, STAY, TRANSFER};
-pub use generate::likely_pair;
-pub use judge::{judge, Fault};
+pub use generate::{dense_pair, likely_pair, long_ways_pair, mixed_pair, odometer_pair};
+pub use judge::{judge, Fault, FEW_JOINT_CHOICES};
 pub use plan::plan;
 pub use random::Random;
 pub use recipe::{
@@ -37,3 +38,4 @@ pub use simulation::{greatest_simulation, joint_choices};
 pub use sizes::{Configuration, Sizes, MOST_PARTS, MOST_POSITIONS, MOST_RESOURCES};
 pub use step::JointStep;
 pub use table::{value_line, value_line_bytes, Reading, Refusal, MOST_LINES};
+pub use walk::walk;

@@ -1,0 +1,137 @@
+//! The planner: the library, the same search in plain Rust, and the independent program. All are handed
+//! the same bytes and fill a table of as many entries as there are positions; the time is for one of them.
+
+use crate::{best_times_of, plain};
+use against::calls::{Calls, Independent, Library};
+use against::independent::{
+    cell_bytes, cell_of_bytes, dense_pair, judge, long_ways_pair, mixed_pair, odometer_pair,
+    recipe_bytes, recipe_of_bytes, Cell, Random, Recipe, Sizes,
+};
+use against::{CellFile, Format, RecipeFile};
+use std::hint::black_box;
+use std::time::{Duration, Instant};
+
+const BENCH_CELL: &[u8] = include_bytes!("../../examples/bench/cell.csv");
+const BENCH_RECIPE: &[u8] = include_bytes!("../../examples/bench/recipe.csv");
+
+/// How many rounds are measured of each program at least. The odometers take seconds.
+const LEAST_ROUNDS: usize = 7;
+const LEAST_ODOMETER_ROUNDS: usize = 2;
+
+type Plan = fn(&[u8], &[u8], &mut [u32], &mut [u8]) -> u32;
+
+/// What a planner is handed.
+#[derive(Clone)]
+struct Case {
+    name: String,
+    cell: Vec<u8>,
+    recipe: Vec<u8>,
+    table: Vec<u32>,
+    scratch: Vec<u8>,
+    least_rounds: usize,
+}
+
+impl Case {
+    fn new(name: &str, (cell, recipe): (Cell, Recipe), least_rounds: usize) -> Case {
+        let positions = Sizes::of(&cell, &recipe).positions as usize;
+        Case {
+            name: name.to_string(),
+            cell: cell_bytes(&cell).to_vec(),
+            recipe: recipe_bytes(&recipe).to_vec(),
+            table: vec![0; positions],
+            scratch: vec![0; positions],
+            least_rounds,
+        }
+    }
+
+    fn time(&mut self, plan: Plan, calls: usize) -> Duration {
+        let start = Instant::now();
+        for _ in 0..calls {
+            let (cell, recipe) = (black_box(&self.cell[..]), black_box(&self.recipe[..]));
+            let (table, scratch) = (&mut self.table[..], &mut self.scratch[..]);
+            black_box(plan(cell, recipe, black_box(table), black_box(scratch)));
+        }
+        start.elapsed()
+    }
+
+    /// What a planner answers, and its table.
+    fn planned(&mut self, plan: Plan) -> (u32, &[u32]) {
+        let refusal = plan(&self.cell, &self.recipe, &mut self.table, &mut self.scratch);
+        (refusal, &self.table)
+    }
+
+    /// The programs' answer, after a look at whether the library's table is allowed, and whether the two
+    /// others are the same.
+    fn answer(&mut self) -> &'static str {
+        let (plain, table) = self.planned(plain::plan);
+        let table = table.to_vec();
+        let independent = self.planned(Independent::plan);
+        assert!(independent == (plain, &table[..]), "{}", self.name);
+
+        let (cell, recipe) = (cell_of_bytes(&self.cell), recipe_of_bytes(&self.recipe));
+        let (refusal, table) = self.planned(Library::plan);
+        let judged = judge(&cell, &recipe, table).map(u32::from);
+        assert_eq!((judged, plain), (Ok(refusal), refusal), "{}", self.name);
+        match refusal {
+            0 => "accepted",
+            _ => "refused 15",
+        }
+    }
+
+    /// Prints a line.
+    fn measure(mut self) {
+        let answer = self.answer();
+        let positions = self.table.len();
+        let [mut other, mut third] = [self.clone(), self.clone()];
+        let [library, plain, independent] = best_times_of(
+            self.least_rounds,
+            [
+                &mut |calls| self.time(Library::plan, calls),
+                &mut |calls| other.time(plain::plan, calls),
+                &mut |calls| third.time(Independent::plan, calls),
+            ],
+        )
+        .map(|call| call / positions as f64);
+        let ratios = [library / plain, library / independent];
+        print!("{:<27} {positions:>9} {answer:>10}", self.name);
+        print!(" {library:>9.1} ns {plain:>9.1} ns {independent:>9.1} ns");
+        println!(" {:>6.2} {:>6.2}", ratios[0], ratios[1]);
+    }
+}
+
+pub fn measure_all() {
+    println!("In plain Rust is the library's own search. The ratios are those of the library's time to the");
+    println!("other two, in their order.");
+    print!(
+        "{:<27} {:>9} {:>10}",
+        "cell and recipe", "positions", "answer"
+    );
+    print!(
+        " {:>12} {:>12} {:>12}",
+        "library", "plain Rust", "independent"
+    );
+    println!(" {:>6} {:>6}", "ratio", "ratio");
+    let mixed = |lines, silent, seed| mixed_pair(lines, silent, &mut Random(seed));
+    for (name, pair) in [
+        ("bench example", bench_pair()),
+        ("29 lines, 14 silent moves", mixed(29, 14, 6)),
+        ("64 lines, 52 silent moves", mixed(64, 52, 3)),
+        ("dense", dense_pair()),
+        ("silent ways of 399 moves", long_ways_pair()),
+    ] {
+        Case::new(name, pair, LEAST_ROUNDS).measure();
+    }
+    for stations in [3, 4] {
+        let name = format!("odometer of {stations} stations");
+        let pair = odometer_pair(stations);
+        Case::new(&name, pair, LEAST_ODOMETER_ROUNDS).measure();
+    }
+}
+
+fn bench_pair() -> (Cell, Recipe) {
+    let mut cell = [0; CellFile::RECORD_BYTES];
+    let mut recipe = [0; RecipeFile::RECORD_BYTES];
+    assert_eq!(CellFile::library(BENCH_CELL, &mut cell), 0);
+    assert_eq!(RecipeFile::library(BENCH_RECIPE, &mut recipe), 0);
+    (cell_of_bytes(&cell), recipe_of_bytes(&recipe))
+}

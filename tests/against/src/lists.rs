@@ -1,0 +1,136 @@
+//! Lists of next-move calls and reports, the library's answers beside the book's.
+
+use crate::calls::{Calls, Library};
+use crate::random::Random;
+use crate::rounds::Round;
+use crate::RunRecord;
+use independent::{kind_of, run_bytes, Book, Run, RUN_BYTES};
+use std::fmt::Debug;
+
+/// What was seen in a list, or in several.
+#[derive(Default)]
+pub struct Seen {
+    pub calls: usize,
+    /// Next-move calls and reports, by the refusal.
+    pub next_moves: [usize; 20],
+    pub reports: [usize; 20],
+    /// Moves issued, by their kind.
+    pub issued: [usize; 5],
+    /// The most silent moves in a row.
+    pub silent: u64,
+}
+
+impl Seen {
+    pub fn add(&mut self, other: &Seen) {
+        self.calls += other.calls;
+        self.silent = self.silent.max(other.silent);
+        for (all, one) in [
+            (&mut self.next_moves[..], &other.next_moves[..]),
+            (&mut self.reports, &other.reports),
+            (&mut self.issued, &other.issued),
+        ] {
+            all.iter_mut()
+                .zip(one)
+                .for_each(|(sum, times)| *sum += times);
+        }
+    }
+}
+
+/// Which form the reports of a list have: the run as bytes, or the record in its own storage.
+#[derive(Clone, Copy)]
+pub enum Form {
+    Value,
+    Record,
+}
+
+/// The run with which a list begins that the book begins too: where that is the start, a fresh one.
+fn first_run(book: &Book) -> [u8; RUN_BYTES] {
+    let mut run = run_bytes(&book.run());
+    if book.run() == Run::fresh() {
+        run.fill(0xff);
+        assert_eq!(Library::fresh(&mut run), 0);
+    }
+    run
+}
+
+/// What all calls of a list are handed.
+pub struct List<'a> {
+    pub cell: &'a [u8],
+    pub recipe: &'a [u8],
+    pub table: &'a [u32],
+}
+
+impl List<'_> {
+    /// Wants a call's answer to be the book's; else says what the call was handed.
+    fn assert_same<T: PartialEq + Debug>(&self, library: T, book: T, run: &[u8], outcome: u8) {
+        let round = || Round {
+            cell: self.cell.to_vec(),
+            recipe: self.recipe.to_vec(),
+            run: run.to_vec(),
+            entries: self.table.len(),
+            outcome,
+            part: 0,
+        };
+        let same = library == book;
+        assert!(same, "library {library:?}, book {book:?}\n{}", round());
+    }
+
+    /// Feeds a list of so many calls, refused ones included, to the library and to the book.
+    pub fn compare(&self, calls: usize, form: Form, book: &mut Book, random: &mut Random) -> Seen {
+        let mut run = first_run(book);
+        let mut seen = Seen::default();
+        for _ in 0..calls {
+            seen.calls += 1;
+            let expected = book.next_move();
+            if random.below(3) == 0 {
+                let List {
+                    cell,
+                    recipe,
+                    table,
+                } = self;
+                let answer = Library::next_move(cell, recipe, table, &run);
+                let word = (u64::from(expected.refusal) << 32) + u64::from(expected.entry);
+                self.assert_same(answer, word, &run, 0);
+                seen.next_moves[usize::from(expected.refusal)] += 1;
+                continue;
+            }
+            let outcome = match random.below(8) {
+                0 => random.byte(),
+                _ => random.below(2) as u8,
+            };
+            let refusal = self.compare_report(form, &mut run, book, outcome);
+            seen.reports[refusal as usize] += 1;
+            seen.issued[kind_of(expected.entry) as usize] += usize::from(refusal == 0);
+            seen.silent = seen.silent.max(book.silent_moves());
+        }
+        seen
+    }
+
+    /// Feeds one report to both. The refusal that both gave.
+    fn compare_report(&self, form: Form, run: &mut [u8], book: &mut Book, outcome: u8) -> u32 {
+        let before = run.to_vec();
+        let refusal = self.report(form, run, outcome);
+        let expected = book.report(outcome);
+        let left = run_bytes(&expected.run);
+        let expected = (expected.refusal.into(), &left[..]);
+        self.assert_same((refusal, &run[..]), expected, &before, outcome);
+        refusal
+    }
+
+    /// The library's report, whose next run takes the place of the run.
+    fn report(&self, form: Form, run: &mut [u8], outcome: u8) -> u32 {
+        let List {
+            cell,
+            recipe,
+            table,
+        } = self;
+        match (form, RunRecord::of(run)) {
+            (Form::Record, Some(mut record)) => {
+                let refusal = Library::report_record(cell, recipe, table, &mut record, outcome);
+                run.copy_from_slice(&record.bytes());
+                refusal
+            }
+            _ => Library::report(cell, recipe, table, run, outcome),
+        }
+    }
+}

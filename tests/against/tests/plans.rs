@@ -1,0 +1,305 @@
+//! The library's planner, through the C interface: worked examples, bounds, and every shape of a cell
+//! and a recipe.
+
+use against::calls::{Calls, Library};
+use against::generate::{self, Rows};
+use against::plans::{Handed, Planned};
+use against::random::Random;
+use against::rounds::accepted;
+use against::{CellFile, Format, RecipeFile};
+use independent::{
+    cell_bytes, dense_pair, long_ways_pair, mixed_pair, recipe_bytes, Cell, Recipe, Sizes,
+    MOST_POSITIONS, RUN_BYTES,
+};
+
+const BENCH_CELL: &[u8] = include_bytes!("../../../examples/bench/cell.csv");
+const BENCH_RECIPE: &[u8] = include_bytes!("../../../examples/bench/recipe.csv");
+
+const STAY: u32 = 67_108_864;
+
+fn bench() -> Handed {
+    let mut cell = vec![0; CellFile::RECORD_BYTES];
+    let mut recipe = vec![0; RecipeFile::RECORD_BYTES];
+    assert_eq!(CellFile::library(BENCH_CELL, &mut cell), 0);
+    assert_eq!(RecipeFile::library(BENCH_RECIPE, &mut recipe), 0);
+    Handed {
+        cell,
+        recipe,
+        entries: 90,
+        scratch: 90,
+    }
+}
+
+/// The bench example with these recipe lines.
+fn bench_with(recipe: &[[u32; 7]]) -> Handed {
+    let rows: Rows = recipe.iter().map(|line| line.to_vec()).collect();
+    Handed {
+        recipe: generate::record::<RecipeFile>(&rows),
+        ..bench()
+    }
+}
+
+/// The plan call of two records, with a table and a scratch of so many more places than it needs.
+fn handed((cell, recipe): &(Cell, Recipe), more: usize) -> Handed {
+    let positions = Sizes::of(cell, recipe).positions as usize;
+    Handed {
+        cell: cell_bytes(cell).to_vec(),
+        recipe: recipe_bytes(recipe).to_vec(),
+        entries: positions + more,
+        scratch: positions + more,
+    }
+}
+
+#[test]
+fn the_bench_example_is_planned_and_followed() {
+    let handed = bench();
+    let mut random = Random::new(1);
+    let Planned { refusal, table } = handed.plan(&mut random);
+    assert_eq!(refusal, 0);
+    assert_eq!(table[72], STAY);
+    assert_eq!(table[1], 0);
+    assert_eq!(table.iter().filter(|&&entry| entry != 0).count(), 25);
+
+    let (cell, recipe) = (&handed.cell, &handed.recipe);
+    let (_, _, sizes) = accepted(cell, recipe).expect("the bench example is accepted");
+    let position = |run: &[u8]| {
+        let run = independent::run_of_bytes(run);
+        sizes.position(run.point, &run.configuration)
+    };
+    let follow = |moves: &[(u64, u64, u8)], end: u64| {
+        let mut run = [0xff; RUN_BYTES];
+        assert_eq!(Library::fresh(&mut run), 0);
+        for &(at, entry, outcome) in moves {
+            assert_eq!(position(&run), at);
+            assert_eq!(Library::next_move(cell, recipe, &table, &run), entry);
+            let refusal = Library::report(cell, recipe, &table, &mut run, outcome);
+            assert_eq!(refusal, 0);
+        }
+        assert_eq!(position(&run), end);
+    };
+    let start = [(0, 50_331_648, 0), (22, 33_554_561, 0)];
+    let passed = [(26, 50_331_651, 1), (50, 50_331_652, 0)];
+    follow(&[start, passed].concat(), 72);
+    let failed = [(26, 50_331_651, 0), (68, 50_331_652, 0)];
+    follow(&[start, failed].concat(), 0);
+}
+
+#[test]
+fn the_bench_example_with_other_lengths() {
+    let mut random = Random::new(2);
+    let mut refused = 0;
+    for entries in (0..100).chain([200, 8192]) {
+        for scratch in [0, 1, 89, 90, 91, 8192] {
+            let handed = Handed {
+                entries,
+                scratch,
+                ..bench()
+            };
+            let short = entries < 90 || scratch < 90;
+            let refusal = handed.plan(&mut random).refusal;
+            assert_eq!(refusal, if short { 14 } else { 0 });
+            refused += usize::from(short);
+        }
+    }
+    assert_eq!(refused, 90 * 6 + 12 * 3);
+}
+
+#[test]
+fn a_station_that_has_left_its_state_cannot_test_again() {
+    let handed = bench_with(&[
+        [0, 1, 1, 0, 1, 1, 0],
+        [1, 2, 2, 1, 0, 2, 3],
+        [2, 1, 3, 1, 0, 4, 0],
+        [3, 2, 2, 1, 0, 2, 2],
+        [4, 0, 0, 0, 0, 0, 0],
+    ]);
+    let Planned { refusal, table } = handed.plan(&mut Random::new(3));
+    assert_eq!((refusal, table[0]), (15, 0));
+    // The table is filled all the same.
+    assert_eq!((table[50], table[72]), (50_331_652, STAY));
+}
+
+#[test]
+fn a_recipe_of_one_end_is_accepted() {
+    let mut handed = bench_with(&[[0, 0, 0, 0, 0, 0, 0]]);
+    handed.entries = 6;
+    handed.scratch = 6;
+    let Planned { refusal, table } = handed.plan(&mut Random::new(4));
+    assert_eq!((refusal, table), (0, vec![STAY; 6]));
+}
+
+#[test]
+fn the_rules_are_tried_in_their_order() {
+    let mut random = Random::new(5);
+    let mut handed = bench();
+    let mut expect = |handed: &Handed, refusal: u32| {
+        assert_eq!(handed.plan(&mut random).refusal, refusal, "{handed}");
+    };
+    // Each change breaks a rule before all those that were broken so far. First the test at point 1
+    // wants an operation that the cell hasn't.
+    handed.recipe[1 + 7 + 2] = 9;
+    expect(&handed, 15);
+    handed.scratch = 89;
+    expect(&handed, 14);
+    // Cell lines 1 and 4 end in state 7, and recipe line 3 takes part 7 too.
+    handed.cell[1 + 5 + 4] = 7;
+    handed.cell[1 + 4 * 5 + 4] = 7;
+    handed.recipe[1 + 3 * 7 + 3] = 129;
+    expect(&handed, 13);
+    // Recipe line 0 with a then that isn't there, without parts, of no kind; then no lines.
+    for (at, number, refusal) in [(6, 5, 12), (5, 0, 10), (2, 3, 4), (0, 0, 3)] {
+        handed.recipe[at] = number;
+        expect(&handed, refusal);
+    }
+    // Cell line 2 with another port, of no act; then too many lines.
+    for (at, number, refusal) in [(14, 6, 6), (13, 4, 4), (0, 65, 3)] {
+        handed.cell[at] = number;
+        expect(&handed, refusal);
+    }
+}
+
+#[test]
+fn records_of_every_length() {
+    let mut random = Random::new(6);
+    for length in 0..RecipeFile::RECORD_BYTES + 10 {
+        let mut handed = bench();
+        handed.cell.resize(length, 0x5a);
+        let short = length < CellFile::RECORD_BYTES;
+        assert_eq!(handed.plan(&mut random).refusal, if short { 3 } else { 0 });
+        let mut handed = bench();
+        handed.recipe.resize(length, 0x5a);
+        let short = length < RecipeFile::RECORD_BYTES;
+        assert_eq!(handed.plan(&mut random).refusal, if short { 3 } else { 0 });
+    }
+}
+
+/// A pair of so many resources, parts and points. Each station can do the one operation, the first one
+/// after internal work. Parts are all given, then all taken, and so on, and the last point is an end;
+/// without parts all points are ends; a single point leads to itself.
+fn shaped(resources: u32, parts: u32, points: u32) -> Handed {
+    let mut cell: Rows = (0..resources).map(|k| vec![k, 0, 1, 0, 0]).collect();
+    cell[0][1] = 1;
+    cell.push(vec![0, 0, 0, 0, 1]);
+    let all = (1 << parts) - 1;
+    let point = |point: u32| match (parts, points - 1 - point, point % 2) {
+        (0, _, _) => vec![point, 0, 0, 0, 0, 0, 0],
+        (_, 0, _) if point == 0 => vec![0, 1, 0, all, all, 0, 0],
+        (_, 0, _) => vec![point, 0, 0, 0, 0, 0, 0],
+        (_, _, 0) => vec![point, 1, 0, 0, all, point + 1, 0],
+        _ => vec![point, 1, 0, all, 0, point + 1, 0],
+    };
+    let recipe: Rows = (0..points).map(point).collect();
+    let positions = (points * 2 * (resources + 1).pow(parts)) as usize;
+    Handed {
+        cell: generate::record::<CellFile>(&cell),
+        recipe: generate::record::<RecipeFile>(&recipe),
+        entries: positions,
+        scratch: positions,
+    }
+}
+
+#[test]
+fn every_shape() {
+    let mut random = Random::new(7);
+    let mut refusals = [0; 20];
+    for resources in 1..=6 {
+        for parts in 0..=8 {
+            for points in 1..=16 {
+                let mut handed = shaped(resources, parts, points);
+                let few = handed.entries <= 40_000;
+                // Of the greater ones only the size is tried.
+                if !few {
+                    handed.entries = (handed.entries - 1).min(40_000);
+                    handed.scratch = 0;
+                }
+                let refusal = handed.plan(&mut random).refusal;
+                if few {
+                    let stuck = parts > 0 && points == 1;
+                    assert_eq!(refusal, if stuck { 15 } else { 0 }, "{handed}");
+                }
+                refusals[refusal as usize] += 1;
+            }
+        }
+    }
+    println!("{refusals:?}");
+    assert_eq!(refusals.iter().sum::<usize>(), 6 * 9 * 16);
+    for (refusal, least) in [(0, 500), (13, 100), (14, 100), (15, 30)] {
+        assert!(refusals[refusal] >= least, "{refusal}: {refusals:?}");
+    }
+}
+
+/// A pair of six stations, or fewer, with eight states each, in which each goes round by internal work
+/// and the last one's operation carries each point to the next; the last point is an end.
+fn many_joint_states(stations: u32, points: u32, parts: bool) -> Handed {
+    let mut cell: Rows = (0..stations * 8)
+        .map(|n| vec![n / 8, n % 8, 0, 0, (n + 1) % 8])
+        .collect();
+    cell.push(vec![stations - 1, 7, 1, 0, 3]);
+    let point = |point: u32| match (parts && point + 1 < points, point % 2) {
+        (false, _) => vec![point, 0, 0, 0, 0, 0, 0],
+        (true, 0) => vec![point, 1, 0, 0, 1, point + 1, 0],
+        (true, _) => vec![point, 1, 0, 1, 0, point + 1, 0],
+    };
+    let recipe: Rows = (0..points).map(point).collect();
+    let placings = if parts { stations + 1 } else { 1 };
+    let positions = (points * 8u32.pow(stations) * placings) as usize;
+    Handed {
+        cell: generate::record::<CellFile>(&cell),
+        recipe: generate::record::<RecipeFile>(&recipe),
+        entries: positions,
+        scratch: positions,
+    }
+}
+
+#[test]
+fn many_joint_states_and_few_ways_to_place_parts() {
+    let mut random = Random::new(8);
+    for (stations, points, parts, positions) in [
+        (6, 4, false, MOST_POSITIONS),
+        (5, 5, true, 983_040),
+        (4, 13, true, 266_240),
+    ] {
+        let handed = many_joint_states(stations, points, parts);
+        assert_eq!(handed.entries as u64, positions);
+        let Planned { refusal, table } = handed.plan(&mut random);
+        assert_eq!(refusal, 0);
+        let moves = |kind| table.iter().filter(|&&entry| entry >> 24 == kind).count();
+        let expected = if parts {
+            [true; 3]
+        } else {
+            [false, false, true]
+        };
+        assert_eq!([1, 3, 4].map(|kind| moves(kind) > 0), expected);
+    }
+    // One more point, and it is 13 before it is 14.
+    let mut handed = many_joint_states(6, 5, false);
+    handed.entries = 1;
+    assert_eq!(handed.plan(&mut random).refusal, 13);
+}
+
+#[test]
+fn as_many_positions_as_there_may_be() {
+    let mut random = Random::new(9);
+    let mixed = |lines, silent, seed| mixed_pair(lines, silent, &mut independent::Random(seed));
+    for (pair, more) in [
+        (dense_pair(), 0),
+        (mixed(29, 14, 6), 1),
+        (mixed(64, 52, 3), 7),
+        (long_ways_pair(), 0),
+    ] {
+        let mut handed = handed(&pair, more);
+        assert_eq!((handed.entries - more) as u64, MOST_POSITIONS);
+        assert_eq!(handed.plan(&mut random).refusal, 0);
+        handed.entries -= more + 1;
+        assert_eq!(handed.plan(&mut random).refusal, 14);
+        handed.entries += 1;
+        handed.scratch -= more + 1;
+        assert_eq!(handed.plan(&mut random).refusal, 14);
+    }
+    // A fifth state in one station, and it is 13.
+    let (mut cell, recipe) = dense_pair();
+    cell.to[0] = 4;
+    let mut handed = handed(&(cell, recipe), 0);
+    handed.entries = 0;
+    assert_eq!(handed.plan(&mut random).refusal, 13);
+}

@@ -1,0 +1,424 @@
+//! The library's planner against the independent program: seeded cells and recipes, small and great,
+//! and every kind of damage to them; and lists of calls on the planned tables against the book.
+
+use against::calls::{Calls, Library};
+use against::damage::seeded_records;
+use against::lists::{self, Form, List};
+use against::pairs::{self, Pair};
+use against::plans::{Handed, Planned};
+use against::random::Random;
+use against::rounds::accepted;
+use independent::{
+    cell_bytes, dense_pair, joint_choices, judge, kind_of, likely_pair, long_ways_pair, mixed_pair,
+    odometer_pair, recipe_bytes, Book, Cell, Recipe, Sizes, FEW_JOINT_CHOICES, MOST_POSITIONS,
+    STAY,
+};
+
+/// Small pairs of a cell and a recipe that are planned. Each is also planned with too short a table or
+/// scratch, and so many times after some damage.
+const SMALL_PAIRS: usize = 20_000;
+const DAMAGED: usize = 3;
+
+/// Great pairs that are planned, each of more positions than this.
+const GREAT_PAIRS: usize = 50;
+const GREAT: u64 = 100_000;
+
+/// How many lists of calls are tried on a planned table, and with how many calls at most.
+#[derive(Clone, Copy)]
+struct Lists {
+    count: usize,
+    calls: usize,
+}
+
+/// A list is over within so many calls of an end or of an entry 0, for nothing changes there.
+const LAST_CALLS: usize = 4;
+
+/// The most positions with which a damaged pair is planned. Greater ones get too short a table.
+const MOST_DAMAGED: usize = 4_000;
+
+/// The recipe kinds.
+const END: u8 = 0;
+const TEST: u8 = 2;
+
+/// What was seen in a run.
+#[derive(Default)]
+struct Seen {
+    /// Plan calls by their refusal.
+    refusals: [usize; 20],
+    /// Planned tables by R, P and N.
+    resources: [usize; 7],
+    parts: [usize; 9],
+    points: [usize; 17],
+    /// Planned tables whose positions were also found by joint steps, and how many of these have both
+    /// zeros and moves at points that are no ends.
+    by_joint_steps: usize,
+    mixed: usize,
+    /// Planned tables with points to which none leads.
+    forgotten: usize,
+    /// Accepted pairs, and those with a move of each kind.
+    accepted: usize,
+    kinds: [usize; 5],
+    /// Accepted pairs with a test that goes on, and with a do of one to four lines that does.
+    tests: usize,
+    parallel: [usize; 5],
+    lists: lists::Seen,
+}
+
+impl Seen {
+    /// Notes a planned table.
+    fn note(&mut self, (cell, recipe, sizes): &(Cell, Recipe, Sizes), planned: &Planned) {
+        self.resources[sizes.resources] += 1;
+        self.parts[sizes.parts] += 1;
+        self.points[sizes.points as usize] += 1;
+        self.forgotten += usize::from(reached_points(recipe).contains(&false));
+        let table = &planned.table[..sizes.positions as usize];
+        if joint_choices(cell, recipe) <= FEW_JOINT_CHOICES {
+            self.by_joint_steps += 1;
+            let is_do_or_test = |p: u8| recipe.kind[pairs::lines_at(recipe, p)[0]] != END;
+            let open_points = (0..sizes.points as u8).filter(|&p| is_do_or_test(p));
+            let entries: Vec<u32> = open_points
+                .flat_map(|p| at_point(sizes, table, p))
+                .copied()
+                .collect();
+            let found = [true, false].map(|zero| entries.iter().any(|&e| (e == 0) == zero));
+            self.mixed += usize::from(found == [true; 2]);
+        }
+        if planned.refusal == 0 {
+            self.note_accepted(recipe, sizes, table);
+        }
+    }
+
+    fn note_accepted(&mut self, recipe: &Recipe, sizes: &Sizes, table: &[u32]) {
+        self.accepted += 1;
+        for (kind, times) in self.kinds.iter_mut().enumerate().skip(1) {
+            *times += usize::from(table.iter().any(|&entry| kind_of(entry) as usize == kind));
+        }
+        let (mut test, mut parallel) = (false, [false; 5]);
+        for point in 0..sizes.points as u8 {
+            let lines = pairs::lines_at(recipe, point);
+            let goes_on = at_point(sizes, table, point)
+                .iter()
+                .any(|&entry| entry != 0);
+            match recipe.kind[lines[0]] {
+                END => {}
+                TEST => test |= goes_on,
+                _ => parallel[lines.len()] |= goes_on,
+            }
+        }
+        self.tests += usize::from(test);
+        for (times, seen) in self.parallel.iter_mut().zip(parallel) {
+            *times += usize::from(seen);
+        }
+    }
+
+    fn print(&self) {
+        println!("plans by refusal {:?}", self.refusals);
+        println!("planned by R {:?}", &self.resources[1..]);
+        println!("planned by P {:?}", self.parts);
+        println!("planned by N {:?}", &self.points[1..]);
+        println!(
+            "{} also by joint steps, {} of them mixed; {} with forgotten points",
+            self.by_joint_steps, self.mixed, self.forgotten
+        );
+        println!(
+            "{} accepted, with moves of kind 1 to 4 {:?}, tests {}, dos of 1 to 4 lines {:?}",
+            self.accepted,
+            &self.kinds[1..],
+            self.tests,
+            &self.parallel[1..]
+        );
+        println!(
+            "{} calls, next-moves by refusal {:?}, reports {:?}, issued by kind {:?}, {} in a row",
+            self.lists.calls,
+            self.lists.next_moves,
+            self.lists.reports,
+            &self.lists.issued[1..],
+            self.lists.silent
+        );
+    }
+}
+
+/// The entries at a point.
+fn at_point<'a>(sizes: &Sizes, table: &'a [u32], point: u8) -> &'a [u32] {
+    let configurations = (sizes.joint_states * sizes.placings) as usize;
+    &table[usize::from(point) * configurations..][..configurations]
+}
+
+/// For each point, whether point 0 leads there, by some branches or none.
+fn reached_points(recipe: &Recipe) -> Vec<bool> {
+    let lines = usize::from(recipe.count);
+    let mut reached = vec![false; usize::from(recipe.point[lines - 1]) + 1];
+    let mut next = vec![0];
+    while let Some(point) = next.pop() {
+        if !std::mem::replace(&mut reached[usize::from(point)], true) {
+            let line = pairs::lines_at(recipe, point)[0];
+            match recipe.kind[line] {
+                END => {}
+                TEST => next.extend([recipe.then[line], recipe.otherwise[line]]),
+                _ => next.push(recipe.then[line]),
+            }
+        }
+    }
+    reached
+}
+
+/// Plans a pair with a table and a scratch that are long enough, and feeds lists of calls on the table
+/// to the library and to the book.
+fn plan_and_follow(
+    (cell, recipe): (Cell, Recipe),
+    lists: Lists,
+    random: &mut Random,
+    seen: &mut Seen,
+) {
+    let sizes = Sizes::of(&cell, &recipe);
+    let positions = sizes.positions as usize;
+    let [entries, scratch] = [(); 2].map(|()| positions + random.choose(&[0, 0, 1, 9]));
+    let handed = Handed {
+        cell: cell_bytes(&cell).to_vec(),
+        recipe: recipe_bytes(&recipe).to_vec(),
+        entries,
+        scratch,
+    };
+    let planned = handed.plan(random);
+    let records = (cell, recipe, sizes);
+    seen.refusals[planned.refusal as usize] += 1;
+    seen.note(&records, &planned);
+    for n in 0..lists.count {
+        // The first begins at the start, the others mostly where there is an entry.
+        let position = match n {
+            0 => 0,
+            _ => some_position(&planned.table[..positions], random),
+        };
+        let book = Book::from_position(&records.0, &records.1, &planned.table, position as u64);
+        let form = [Form::Value, Form::Record][n % 2];
+        let list_seen = follow(&handed, &planned.table, book, form, lists.calls, random);
+        let promised = planned.table[position] != 0;
+        assert!(
+            keeps_promises(&list_seen, promised, &records.2),
+            "from {position}\n{handed}"
+        );
+        seen.lists.add(&list_seen);
+    }
+}
+
+/// Beside the answers: from an entry, 18 is never given and silent moves in a row are few; from a 0
+/// nothing is issued.
+fn keeps_promises(seen: &lists::Seen, promised: bool, sizes: &Sizes) -> bool {
+    let shut = seen.next_moves[18] + seen.reports[18];
+    match promised {
+        true => shut == 0 && seen.silent < sizes.joint_states * sizes.placings,
+        false => seen.issued == [0; 5],
+    }
+}
+
+/// Compares a list of at most so many calls with the book.
+fn follow(
+    handed: &Handed,
+    table: &[u32],
+    mut book: Book,
+    form: Form,
+    calls: usize,
+    random: &mut Random,
+) -> lists::Seen {
+    let list = List {
+        cell: &handed.cell,
+        recipe: &handed.recipe,
+        table,
+    };
+    let mut seen = lists::Seen::default();
+    let over = |book: &Book| matches!(kind_of(book.next_move().entry), 0 | STAY);
+    while seen.calls < calls {
+        let was_over = over(&book);
+        seen.add(&list.compare(LAST_CALLS, form, &mut book, random));
+        if was_over {
+            break;
+        }
+    }
+    seen
+}
+
+/// A position, most times one with an entry, and with a move if there is such a one near.
+fn some_position(table: &[u32], random: &mut Random) -> usize {
+    let tries = (0..20).map(|_| random.below(table.len()));
+    let positions: Vec<usize> = tries.collect();
+    let goes_on = |&&p: &&usize| (1..4).contains(&kind_of(table[p]));
+    let has_entry = |&&p: &&usize| table[p] != 0;
+    let found = positions.iter().find(goes_on);
+    let found = found.or_else(|| positions.iter().find(has_entry));
+    *found.unwrap_or(&positions[0])
+}
+
+/// Lengths of a table and a scratch of which one is too short at least, most times by one.
+fn short_lengths(positions: usize, random: &mut Random) -> [usize; 2] {
+    let less = |random: &mut Random| match random.below(3) {
+        0 => random.below(positions),
+        _ => positions - 1,
+    };
+    match random.below(3) {
+        0 => [less(random), positions + random.below(9)],
+        1 => [positions + random.below(9), less(random)],
+        _ => [less(random), less(random)],
+    }
+}
+
+/// Plans with a table or a scratch that is too short.
+fn plan_short((cell, recipe): &(Cell, Recipe), random: &mut Random, seen: &mut Seen) {
+    let positions = Sizes::of(cell, recipe).positions as usize;
+    let [entries, scratch] = short_lengths(positions, random);
+    let handed = Handed {
+        cell: cell_bytes(cell).to_vec(),
+        recipe: recipe_bytes(recipe).to_vec(),
+        entries,
+        scratch,
+    };
+    let refusal = handed.plan(random).refusal;
+    assert_eq!(refusal, 14, "{handed}");
+    seen.refusals[14] += 1;
+}
+
+/// Plans after some damage to the records.
+fn plan_damaged(pair: &Pair, random: &mut Random, seen: &mut Seen) {
+    let (cell, recipe) = seeded_records(pair, random);
+    let [entries, scratch] = match accepted(&cell, &recipe) {
+        Some((_, _, sizes)) if sizes.positions as usize <= MOST_DAMAGED => {
+            [sizes.positions as usize; 2]
+        }
+        Some((_, _, sizes)) => short_lengths(sizes.positions as usize, random),
+        None => [(); 2].map(|()| random.below(100)),
+    };
+    // Not more than is lent to the others, for the content is made up each time.
+    let handed = Handed {
+        cell,
+        recipe,
+        entries: entries.min(MOST_DAMAGED),
+        scratch: scratch.min(MOST_DAMAGED),
+    };
+    seen.refusals[handed.plan(random).refusal as usize] += 1;
+}
+
+#[test]
+fn small_pairs() {
+    let mut random = Random::new(11);
+    let mut source = independent::Random(12);
+    let mut seen = Seen::default();
+    let lists = Lists {
+        count: 6,
+        calls: 24,
+    };
+    for n in 0..SMALL_PAIRS {
+        let most = [60, 400, 400, 400, 2_000, 5_000][n % 6];
+        let pair = likely_pair(most, &mut source);
+        plan_short(&pair, &mut random, &mut seen);
+        let rows = match n % 16 {
+            0 => pairs::good_pair(u64::MAX, &mut random),
+            1..=5 => pairs::good_pair(most, &mut random),
+            _ => Pair::of(&pair.0, &pair.1),
+        };
+        for _ in 0..DAMAGED {
+            plan_damaged(&rows, &mut random, &mut seen);
+        }
+        plan_and_follow(pair, lists, &mut random, &mut seen);
+    }
+    seen.print();
+    for (refusal, times) in seen.refusals.into_iter().enumerate() {
+        match refusal {
+            1 | 2 | 16.. => assert_eq!(times, 0, "the planner cannot give {refusal}"),
+            _ => assert!(times >= 300, "{refusal} was seen too seldom"),
+        }
+    }
+    assert!(3 * seen.accepted > SMALL_PAIRS);
+    assert!(seen.by_joint_steps > SMALL_PAIRS / 2 && seen.mixed > SMALL_PAIRS / 4);
+    let others = [seen.tests, seen.forgotten];
+    for (name, seen) in [
+        ("R", &seen.resources[1..]),
+        ("P", &seen.parts),
+        ("N", &seen.points[1..]),
+        ("moves of each kind", &seen.kinds[1..]),
+        ("dos of each number of lines", &seen.parallel[1..]),
+        ("tests and points to which none leads", &others),
+    ] {
+        assert!(seen.iter().all(|&times| times >= 30), "{name}: {seen:?}");
+    }
+    let lists = &seen.lists;
+    assert!(lists.calls >= 1_000_000);
+    assert!(lists.issued[1..4].iter().all(|&times| times >= 20_000));
+    assert!(lists.next_moves[0] >= 100_000);
+    assert!(lists.reports[17..].iter().all(|&times| times >= 10_000));
+}
+
+#[test]
+fn one_table_for_many_pairs() {
+    let mut source = independent::Random(16);
+    let (mut table, mut scratch) = (vec![0; 2_000], vec![0; 2_000]);
+    let mut refusals = [0; 20];
+    for _ in 0..3_000 {
+        let (cell, recipe) = likely_pair(2_000, &mut source);
+        let positions = Sizes::of(&cell, &recipe).positions as usize;
+        let past = table[positions..].to_vec();
+        let records = (cell_bytes(&cell), recipe_bytes(&recipe));
+        let refusal = Library::plan(&records.0, &records.1, &mut table, &mut scratch);
+        let judged = judge(&cell, &recipe, &table).map(u32::from);
+        assert_eq!(judged, Ok(refusal));
+        assert_eq!(table[positions..], past);
+        refusals[refusal as usize] += 1;
+    }
+    println!("plans by refusal {refusals:?}");
+    assert!(refusals[0] >= 1_000 && refusals[15] >= 300);
+}
+
+#[test]
+fn great_pairs() {
+    let mut random = Random::new(13);
+    let mut source = independent::Random(14);
+    let mut seen = Seen::default();
+    let lists = Lists {
+        count: 200,
+        calls: 50,
+    };
+    let (mut planned, mut over_half) = (0, 0);
+    while planned < GREAT_PAIRS {
+        let pair = likely_pair(MOST_POSITIONS, &mut source);
+        let positions = Sizes::of(&pair.0, &pair.1).positions;
+        if positions <= GREAT {
+            continue;
+        }
+        planned += 1;
+        over_half += usize::from(positions > MOST_POSITIONS / 2);
+        plan_and_follow(pair, lists, &mut random, &mut seen);
+    }
+    seen.print();
+    println!("{over_half} of more than half as many positions as there may be");
+    let Seen {
+        refusals, kinds, ..
+    } = &seen;
+    assert!(refusals[0] >= 17 && refusals[15] >= 5 && over_half >= 10);
+    assert!(kinds[1..].iter().all(|&times| times >= 10));
+    assert!(seen.lists.issued[1..4].iter().all(|&times| times >= 1_000));
+}
+
+#[test]
+fn dense_mixed_and_long() {
+    let mut random = Random::new(15);
+    let mut seen = Seen::default();
+    let lists = Lists {
+        count: 20,
+        calls: 3_000,
+    };
+    let mixed = |lines, silent, seed| mixed_pair(lines, silent, &mut independent::Random(seed));
+    for pair in [
+        dense_pair(),
+        mixed(29, 14, 6),
+        mixed(64, 52, 3),
+        long_ways_pair(),
+    ] {
+        plan_and_follow(pair, lists, &mut random, &mut seen);
+    }
+    for stations in 1..=3 {
+        plan_and_follow(odometer_pair(stations), lists, &mut random, &mut seen);
+    }
+    seen.print();
+    assert_eq!((seen.refusals[0], seen.refusals[15]), (4, 3));
+    assert!(seen.lists.issued[1..4].iter().all(|&times| times >= 200));
+    // No way to the last station's top is shorter.
+    assert!(seen.lists.silent >= 399);
+}

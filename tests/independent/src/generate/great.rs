@@ -1,0 +1,177 @@
+//! Cells and recipes that a planner has most to do with: as many positions as there may be, long
+//! silent ways, and many rounds.
+
+use super::{cell_of_lines, recipe_of_lines, walk, CellLine, RecipeLine, Shape, END_LINE};
+use crate::cell::{Cell, IN, INTERNAL, OPERATION, OUT};
+use crate::random::Random;
+use crate::recipe::{Recipe, DO, TEST};
+use crate::run::check;
+use crate::sizes::{Sizes, MOST_POSITIONS};
+
+/// As many positions as there may be, and a way from the start: three stations that do everything in
+/// every state; five parts that are given, tested and taken.
+pub fn dense_pair() -> (Cell, Recipe) {
+    let mut lines: Vec<CellLine> = vec![];
+    for (k, state) in (0..12).map(|n| (n / 4, n % 4)) {
+        let next = (state + 1) % 4;
+        lines.push([k, state, OPERATION, state % 2, next]);
+        lines.push([k, state, INTERNAL, 0, (state + 2) % 4]);
+        lines.push([k, state, OUT, k, next]);
+        lines.push([k, state, IN, (k + 2) % 3, next]);
+    }
+    let mut points: Vec<RecipeLine> = vec![];
+    for (point, part) in (0..15).map(|n| (n, 1 << (n % 5))) {
+        let (op, then) = (point % 2, point + 1);
+        points.push(match point / 5 {
+            0 => [point, DO, op, 0, part, then, 0],
+            1 => [point, TEST, op, part, 0, then, 5 + point % 3],
+            _ => [point, DO, op, part, 0, then, 0],
+        });
+    }
+    points.push(super::numbered(END_LINE, 15));
+    (cell_of_lines(&lines), recipe_of_lines(&points))
+}
+
+/// Three stations of four states each, five parts and 16 points, which are as many positions as there
+/// may be; so many cell lines, and so many silent moves in all. The recipe is written along a walk.
+pub fn mixed_pair(lines: usize, silent_moves: usize, random: &mut Random) -> (Cell, Recipe) {
+    let shape = Shape {
+        wide: false,
+        states: vec![4; 3],
+        parts: 5,
+        points: 16,
+    };
+    loop {
+        let cell = cell_of_lines(&mixed_lines(lines, silent_moves, random));
+        if walk::silent_steps(&cell).len() != silent_moves {
+            continue;
+        }
+        let recipe = recipe_of_lines(&walk::recipe_lines(&cell, &shape, random));
+        if check(&cell, &recipe) == 0 && Sizes::of(&cell, &recipe).positions == MOST_POSITIONS {
+            return (cell, recipe);
+        }
+    }
+}
+
+/// Any lines of three stations with four states. The more silent moves are wanted for a line, the more
+/// of the lines are internal work, an in or an out.
+fn mixed_lines(lines: usize, silent_moves: usize, random: &mut Random) -> Vec<CellLine> {
+    let mut line = || {
+        let silent = random.below(2 * lines) < lines / 2 + silent_moves / 2;
+        let (act, arg) = match silent {
+            false => (OPERATION, random.below(4)),
+            true => (random.choose(&[INTERNAL, IN, OUT]), random.below(3)),
+        };
+        let [from, to] = [(); 2].map(|()| random.below(4) as u8);
+        [random.below(3) as u8, from, act, arg as u8, to]
+    };
+    (0..lines).map(|_| line()).collect()
+}
+
+/// As many positions as there may be, and silent ways of hundreds of moves: three stations of eight
+/// states count, the first by internal work, the others by the transfers with which the station before
+/// starts anew. What is to be done is done in the last one's last state.
+pub fn long_ways_pair() -> (Cell, Recipe) {
+    let mut lines = counting_lines(3, INTERNAL);
+    lines.extend([0, 1].map(|op| [2, 7, OPERATION, op, 0]));
+    let points = [[0, DO, 0, 0, 16, 1, 0], [1, DO, 1, 16, 0, 0, 0]];
+    (cell_of_lines(&lines), recipe_of_lines(&points))
+}
+
+/// Stations of eight states, five at most, that count the rounds of a loop, the first by its operation
+/// and the others by transfers, until the last one is stuck. So nothing but the last count is stuck at
+/// first, and each sweep drops one more round of the loop; nothing is realisable.
+pub fn odometer_pair(stations: u8) -> (Cell, Recipe) {
+    let mut lines = counting_lines(stations, OPERATION);
+    lines.extend((0..8).map(|state| [0, state, OPERATION, 1, state]));
+    let points = [[0, DO, 0, 0, 1, 1, 0], [1, DO, 1, 1, 0, 0, 0]];
+    (cell_of_lines(&lines), recipe_of_lines(&points))
+}
+
+/// The lines of stations of eight states. The first goes up by number 0 of an act; each that is at the
+/// top starts anew with a transfer that takes the next one up.
+fn counting_lines(stations: u8, act: u8) -> Vec<CellLine> {
+    let mut lines: Vec<CellLine> = (0..7).map(|state| [0, state, act, 0, state + 1]).collect();
+    for k in 1..stations {
+        lines.push([k - 1, 7, OUT, k, 0]);
+        lines.extend((0..7).map(|state| [k, state, IN, k, state + 1]));
+    }
+    lines
+}
+
+#[cfg(test)]
+mod tests {
+    use super::*;
+    use crate::book::Book;
+    use crate::entry::{kind_of, CARRY, INTERNAL, STAY, TRANSFER};
+    use crate::fixtures::planned;
+
+    fn sizes_of((cell, recipe): &(Cell, Recipe)) -> Sizes {
+        assert_eq!(check(cell, recipe), 0);
+        Sizes::of(cell, recipe)
+    }
+
+    #[test]
+    fn mixed_pairs_are_realisable_by_moves_of_every_kind() {
+        for (lines, silent_moves, seed) in [(29, 14, 6), (64, 52, 3)] {
+            let pair = mixed_pair(lines, silent_moves, &mut Random(seed));
+            let sizes = sizes_of(&pair);
+            let (cell, recipe) = pair;
+            assert_eq!((sizes.resources, sizes.parts, sizes.points), (3, 5, 16));
+            assert_eq!(sizes.states[..3], [4; 3]);
+            assert_eq!(sizes.positions, MOST_POSITIONS);
+            assert_eq!(usize::from(cell.count), lines);
+            assert_eq!(walk::silent_steps(&cell).len(), silent_moves);
+            let (refusal, table) = planned(&cell, &recipe);
+            assert_eq!(refusal, 0);
+            for kind in [INTERNAL, TRANSFER, CARRY, STAY] {
+                let moves = table.iter().filter(|&&entry| kind_of(entry) == kind);
+                assert!(moves.count() > 5_000);
+            }
+        }
+    }
+
+    #[test]
+    fn a_long_way_takes_hundreds_of_silent_moves() {
+        let (cell, recipe) = long_ways_pair();
+        assert_eq!(sizes_of(&long_ways_pair()).positions, MOST_POSITIONS);
+        let (refusal, table) = planned(&cell, &recipe);
+        assert_eq!(refusal, 0);
+        let mut book = Book::new(&cell, &recipe, &table);
+        // Once up takes the last station 1 + 7 × 8 moves, and it goes up seven times.
+        for point in [0, 1, 0] {
+            for silent_moves in 1..=399 {
+                assert_eq!(book.report(0).refusal, 0);
+                assert_eq!(
+                    (book.silent_moves(), book.run().point),
+                    (silent_moves, point)
+                );
+            }
+            assert_eq!(book.report(0).refusal, 0);
+            assert_eq!(book.silent_moves(), 0);
+        }
+    }
+
+    #[test]
+    fn an_odometer_is_stuck_in_the_end() {
+        for (stations, positions) in [(1, 32), (2, 384), (3, 4096)] {
+            let pair = odometer_pair(stations);
+            assert_eq!(sizes_of(&pair).positions, positions);
+            let (refusal, table) = planned(&pair.0, &pair.1);
+            assert_eq!(refusal, 15);
+            assert!(table.iter().all(|&entry| entry == 0));
+        }
+        assert_eq!(sizes_of(&odometer_pair(4)).positions, 40_960);
+        assert_eq!(sizes_of(&odometer_pair(5)).positions, 393_216);
+        // If the last station started anew, so would the loop.
+        let (mut cell, recipe) = odometer_pair(2);
+        let last = usize::from(cell.count) - 9;
+        assert_eq!(
+            (cell.resource[last], cell.from[last], cell.to[last]),
+            (1, 6, 7)
+        );
+        cell.to[last] = 0;
+        let (refusal, _) = planned(&cell, &recipe);
+        assert_eq!(refusal, 0);
+    }
+}
