@@ -1,13 +1,11 @@
--- The method over any machine (Machine, Lost, Closed, Sweep, Stages, Counting) and the cell and the recipe as one (Instance);
+-- The method over any machine (Machine, Lost, Closed, Stages) and the cell and the recipe as one (Instance);
 -- joint steps part by part and as single moves (Paired, Parted, PartedCarries, Singles, Split, Same); what the book does
 -- (Booked), closed tables (Promised) and reports of the second form (Recorded), rules (Ruling, TableRule); certificates that the checker computes (Numbered,
 -- Listing, Staged, Certified, Tabled).
 pub mod Machine
 pub mod Lost
 pub mod Closed
-pub mod Sweep
 pub mod Stages
-pub mod Counting
 pub mod Instance
 pub mod Paired
 pub mod Parted
