@@ -26,9 +26,8 @@ use Rattle.steps.specs.Lines.{isAt, firstLineOf, linesOf, kindOf, thenOf, elseO
 use Rattle.steps.specs.Carry.{standsAt, isFree, free, putThere, placed, partsMoved}
 use Rattle.steps.specs.Entry.{entryKind, letter, unused, endEntry}
 use Rattle.steps.specs.Single.{ready, lineReady, internalOpen, transferOpen, lineServes, isApart, carryOpen}
-use Rattle.simulation.specs.Simulation.{Greatest, Realisable}
-use Rattle.simulation.specs.Plan.{entryOf, Planned}
 use Rattle.planner.specs.Call.{checkPlan, Filled, PlanCall}
+use Rattle.planner.proofs.Demands.{realisable-accepted, unrealisable-refused}
 use Rattle.worked.specs.Moves.{filled, benchCell, benchRecipe, benchEntry, benchTable}
 use Rattle.worked.specs.Plans.{deadRecipe, endRecipe}
 use Rattle.worked.proofs.Plans.{computed, bench-planned, entry-one, entry-last, dead-recipe, one-end}
@@ -77,31 +76,6 @@ module _ (c : Cell) (r : Recipe) (sized : checkSizes c r ≡ Accepted) (table sc
   unfolding checkPlan before rule14 noLine
   check-short narrow = rw (sized, le-ltb table (sizesOf c r .positions) long, lt-ltb scratch (sizesOf c r .positions) narrow)
 
--- any call that the rules before 15 let pass
-module _
-    (c : Cell) (r : Recipe) (table scratch table′ scratch′ : List ℕ) (verdict : Verdict)
-    (call : PlanCall c r table scratch table′ scratch′ verdict)
-    (passes : checkPlan c r (length table) (length scratch) ≡ Accepted)
-  where
-    result : Filled c r table scratch table′ scratch′ verdict
-    result = call .passed passes
-
-    accepts : Realisable c r → verdict ≡ Accepted
-    unfolding noLine
-    accepts able = go (result .refused) refl
-      where
-        go : (b : Bool) → result .refused ≡ b → verdict ≡ Accepted
-        go false is = result .answer ∙ ap (noLine NotRealisable) is
-        go true is = absurd (result .planned .refused-lacks is able)
-
-    denies : (Realisable c r → ⊥) → verdict ≡ Refused NotRealisable 0
-    unfolding noLine
-    denies unable = go (result .refused) refl
-      where
-        go : (b : Bool) → result .refused ≡ b → verdict ≡ Refused NotRealisable 0
-        go true is = result .answer ∙ ap (noLine NotRealisable) is
-        go false is = absurd (unable (result .planned .accepted-holds is))
-
 -- what every call on the bench example leaves
 pub record Bench (table : List ℕ) (verdict : Verdict) : Type 0 where
   pub accepted : verdict ≡ Accepted
@@ -136,7 +110,7 @@ module _ (table scratch table′ scratch′ : List ℕ) (verdict : Verdict) wher
       passes = check-passes benchCell benchRecipe (computed .sized) (length table) (length scratch) fits (omega (arith, computed .positions))
 
       plan : Filled benchCell benchRecipe table scratch table′ scratch′ verdict
-      plan = result benchCell benchRecipe table scratch table′ scratch′ verdict call passes
+      plan = call .passed passes
 
       move : (m x : ℕ) → m < 90 → 0 < x → sole m x ≡ true → getD table′ m 0 ≡ x
       unfolding sole
@@ -153,7 +127,7 @@ module _ (table scratch table′ scratch′ : List ℕ) (verdict : Verdict) wher
       pub bench-called : Bench table′ verdict
       bench-called =
           record {
-            accepted = accepts benchCell benchRecipe table scratch table′ scratch′ verdict call passes (bench-planned .accepted-holds refl);
+            accepted = realisable-accepted benchCell benchRecipe table scratch table′ scratch′ verdict call passes (bench-planned .accepted-holds refl);
             entry-0 = move 0 50331648 (omega arith) (omega arith) (soles .glued);
             entry-22 = move 22 33554561 (omega arith) (omega arith) (soles .passed-on);
             entry-26 = move 26 50331651 (omega arith) (omega arith) (soles .tested);
@@ -181,7 +155,7 @@ module _ (table scratch table′ scratch′ : List ℕ) (verdict : Verdict) wher
       → 90 ≤ length scratch
       → verdict ≡ Refused NotRealisable 0
   dead-called call long wide =
-      denies benchCell deadRecipe table scratch table′ scratch′ verdict call
+      unrealisable-refused benchCell deadRecipe table scratch table′ scratch′ verdict call
       (check-passes benchCell deadRecipe (computed .dead-sized) (length table) (length scratch) (omega (arith, soles .dead-positions)) (omega (arith, soles .dead-positions)))
       dead-recipe
 
@@ -192,6 +166,6 @@ module _ (table scratch table′ scratch′ : List ℕ) (verdict : Verdict) wher
       → 6 ≤ length scratch
       → verdict ≡ Accepted
   end-called call long wide =
-      accepts benchCell endRecipe table scratch table′ scratch′ verdict call
+      realisable-accepted benchCell endRecipe table scratch table′ scratch′ verdict call
       (check-passes benchCell endRecipe (computed .end-sized) (length table) (length scratch) (omega (arith, soles .end-positions)) (omega (arith, soles .end-positions)))
       one-end

@@ -1,4 +1,4 @@
--- The bench example's files and their verdicts, computed over their bytes. Assumes nothing.
+-- The files of the worked examples, their records and their verdicts, computed over their bytes. Assumes nothing.
 use mathlib.Core.Path.{_≡_, refl}
 use Rattle.refusals.specs.declared.Verdict.the-variants.{Accepted, Refused}
 use Rattle.refusals.specs.declared.Refusal.the-variants.{NoPartner}
@@ -12,8 +12,9 @@ use Rattle.cell.specs.Reader.{cellNames, cellOf, judgeCell, reading, readCell}
 use Rattle.recipe.specs.Rules as recipe
 use Rattle.recipe.specs.Reader as recipe-reader
 use Rattle.recipe.specs.Reader.{recipeNames, recipeOf, judgeRecipe, readRecipe}
-use Rattle.worked.specs.Bench.{row, cellFile, recipeFile}
-use Rattle.worked.specs.Moves.{filled, benchCell, benchRecipe}
+use Rattle.worked.specs.Bench.{digits, row, rows, cellFile, recipeWith, recipeFile, deadFile, endFile, limitCellFile, limitRecipeFile}
+use Rattle.worked.specs.Moves.{filled, benchCell, benchRecipe, limitCell, limitRecipe}
+use Rattle.worked.specs.Plans.{deadRecipe, endRecipe}
 
 pub record Files : Type 0 where
   -- the two files are accepted, and these records are read
@@ -21,6 +22,12 @@ pub record Files : Type 0 where
   pub recipe-read : readRecipe recipeFile ≡ record { verdict = Accepted; recipe = benchRecipe }
   -- ‡ "line 2 with port 6 gives 6 at line 3"
   pub port-six : judgeCell (cellFile 6) ≡ Refused NoPartner 3
+  -- the recipes that document 01 changes it to, and the example at the limit
+  pub dead-read : readRecipe deadFile ≡ record { verdict = Accepted; recipe = deadRecipe }
+  pub end-read : readRecipe endFile ≡ record { verdict = Accepted; recipe = endRecipe }
+  pub limit-cell-read : readCell (limitCellFile 3) ≡ record { verdict = Accepted; cell = limitCell 3 }
+  pub fifth-state-read : readCell (limitCellFile 4) ≡ record { verdict = Accepted; cell = limitCell 4 }
+  pub limit-recipe-read : readRecipe limitRecipeFile ≡ record { verdict = Accepted; recipe = limitRecipe }
 
 pub files : Files
 unfolding firstBelow anyBelow countBelow greatestBelow tabulate before lineVerdict firstLine noLine rule3 upTo past lengthened parted ended last lines
@@ -29,5 +36,16 @@ unfolding firstBelow anyBelow countBelow greatestBelow tabulate before lineVerdi
     cell.rule6 cell.checkCell cellNames cellOf judgeCell reading readCell recipe.inRange recipe.leavesRange recipe.rule4 recipe.breaksOrder recipe.rule7 recipe.samePoint recipe.clashes
     recipe.breaksRepeat recipe.rule8 recipe.hasUnused recipe.breaksUnused recipe.rule9 recipe.lacksParts recipe.breaksParts recipe.rule10 recipe.holdsPart recipe.common
     recipe.sharesPart recipe.breaksCommon recipe.rule11 recipe.opensPoint recipe.pointCount recipe.leadsOut recipe.breaksTarget recipe.rule12 recipe.checkPoints
-    recipe.checkRecipe recipeNames recipeOf judgeRecipe recipe-reader.reading readRecipe row cellFile recipeFile filled benchCell benchRecipe
-files = record { cell-read = refl; recipe-read = refl; port-six = refl }
+    recipe.checkRecipe recipeNames recipeOf judgeRecipe recipe-reader.reading readRecipe digits row rows cellFile
+    recipeWith recipeFile deadFile endFile limitCellFile limitRecipeFile filled benchCell benchRecipe deadRecipe endRecipe limitCell limitRecipe
+files =
+    record {
+      cell-read = refl;
+      recipe-read = refl;
+      port-six = refl;
+      dead-read = refl;
+      end-read = refl;
+      limit-cell-read = refl;
+      fifth-state-read = refl;
+      limit-recipe-read = refl;
+    }

@@ -4,6 +4,7 @@ mod Moves
 mod Limit
 mod Followed
 mod Plans
+mod Rework
 mod Forced
 mod Called
 mod Shuttle

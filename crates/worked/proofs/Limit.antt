@@ -9,7 +9,7 @@ use Rattle.recipe.specs.Rules as recipe
 use Rattle.positions.specs.Radix.{productBelow}
 use Rattle.positions.specs.Sizes.{resourceCount, farthest, stateCount, stateCounts, partsIn, partCount, jointCount, sizesOf}
 use Rattle.positions.specs.Rules.{checkRecords, rule13, checkSizes}
-use Rattle.worked.specs.Moves.{limitCell, limitRecipe}
+use Rattle.worked.specs.Moves.{filled, limitCell, limitRecipe}
 
 pub record Limit : Type 0 where
   pub reached : sizesOf (limitCell 3) limitRecipe .positions ≡ 1048576
@@ -22,5 +22,5 @@ unfolding firstBelow anyBelow countBelow greatestBelow tabulate before lineVerdi
     recipe.leavesRange recipe.rule4 recipe.breaksOrder recipe.rule7 recipe.samePoint recipe.clashes recipe.breaksRepeat recipe.rule8 recipe.hasUnused
     recipe.breaksUnused recipe.rule9 recipe.lacksParts recipe.breaksParts recipe.rule10 recipe.holdsPart recipe.common recipe.sharesPart recipe.breaksCommon
     recipe.rule11 recipe.opensPoint recipe.pointCount recipe.leadsOut recipe.breaksTarget recipe.rule12 recipe.checkPoints recipe.checkRecipe productBelow
-    resourceCount farthest stateCount stateCounts partsIn partCount jointCount sizesOf checkRecords rule13 checkSizes limitCell limitRecipe
+    resourceCount farthest stateCount stateCounts partsIn partCount jointCount sizesOf checkRecords rule13 checkSizes filled limitCell limitRecipe
 limit = record { reached = refl; four-pass = refl; fifth-state = refl }

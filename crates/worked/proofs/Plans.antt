@@ -32,14 +32,15 @@ use Rattle.steps.specs.Lines.{isAt, firstLineOf, linesOf, kindOf, thenOf, elseO
 use Rattle.steps.specs.Carry.{standsAt, isFree, free, putThere, placed, partsMoved}
 use Rattle.steps.specs.Entry.{entryKind, letter, unused, endEntry}
 use Rattle.steps.specs.Single.{ready, lineReady, internalOpen, transferOpen, lineServes, isApart, carryOpen, silentOpen, opens, statesAfter, linesTaken, handOver, transferred, carried, makes, leadsTo}
-use Rattle.simulation.specs.Simulation.{Position, Greatest, Realisable}
+use Rattle.simulation.specs.Simulation.{Position, Set, Greatest, Realisable}
 use Rattle.simulation.specs.Plan.{entryOf, Planned}
 use Rattle.simulation.proofs.Machine.{Lost}
 use Rattle.simulation.proofs.Instance.{machineOf}
 use Rattle.simulation.proofs.Tabled.{rankOf, hasEntry, leadsOn, closedAt, isClosed, closed-table}
 use Rattle.simulation.proofs.Staged.{stageOf, noMore, lower, staysStaged, falls, movesStaged, positionStaged, areStages}
 use Rattle.simulation.proofs.Certified.{stages-lost}
-use Rattle.simulation.proofs.Planning.{planned, lost-not}
+use Rattle.simulation.proofs.Same.{SingleSimulation, within, is-within, single-joint}
+use Rattle.simulation.proofs.Planning.{planned, starts, lost-not}
 use Rattle.worked.specs.Moves.{filled, benchCell, benchRecipe, benchEntry, benchTable, benchRanks}
 use Rattle.worked.specs.Plans.{benchStages, deadRecipe, deadStages, endRecipe}
 
@@ -76,6 +77,7 @@ pub record Computed : Type 0 where
   -- "25 nonzero positions"
   pub many : countBelow (λ m. not (eqb (getD benchTable m 0) 0)) 90 ≡ 25
   pub end-sized : checkSizes benchCell endRecipe ≡ Accepted
+  end-passes : recipe.checkRecipe endRecipe ≡ Accepted
   end-ends : kindOf endRecipe 0 ≡ 0
 
 pub computed : Computed
@@ -119,6 +121,7 @@ computed =
       last-end = refl;
       many = refl;
       end-sized = refl;
+      end-passes = refl;
       end-ends = refl;
     }
 
@@ -209,9 +212,13 @@ module _ (before table : List ℕ) (refused : Bool) (plan : Planned benchCell be
 pub one-end : Realisable benchCell endRecipe
 one-end =
     record {
-      set = λ p a. eqb p 0;
-      simulation =
-          λ p a valid member some.
-          let none : p ≡ 0 = eqb-true p 0 member in absurd (some (ap (kindOf endRecipe) none ∙ computed .end-ends));
-      member = refl;
+      set = within benchCell endRecipe ends;
+      simulation = single-joint benchCell endRecipe (computed .cell-passes) (computed .end-passes) ends none-left;
+      member = is-within benchCell endRecipe ends 0 start (starts benchCell endRecipe (computed .cell-passes) (computed .end-passes)) refl;
     }
+  where
+    ends : Set
+    ends p a = eqb p 0
+
+    none-left : SingleSimulation benchCell endRecipe ends
+    none-left p a valid member some = absurd (some (ap (kindOf endRecipe) (eqb-true p 0 member) ∙ computed .end-ends))

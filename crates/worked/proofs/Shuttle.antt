@@ -21,6 +21,7 @@ use Rattle.run.specs.Book.{Call, reports, opened, byTable, atEnd, isOpen, refus
 use Rattle.run.specs.Promises.{every, fewSilent}
 use Rattle.simulation.specs.Simulation.{Position}
 use Rattle.simulation.specs.Plan.{entryOf, Planned}
+use Rattle.worked.specs.Moves.{filled}
 use Rattle.worked.specs.Worthless.{laneCell, laneRecipe, shuttleTable, madePart}
 
 -- as many reports as there are configurations, J × W = 1 × 3
@@ -45,7 +46,7 @@ unfolding firstBelow anyBelow allBelow countBelow greatestBelow tabulate before 
     recipe.checkRecipe sumBelow productBelow resourceCount farthest stateCount stateCounts partsIn partCount jointCount sizesOf stateWeight stateNumber
     placeNumber positionOf checkRecords rule13 checkSizes stateFits placeCount placeFits isPosition isAt firstLineOf linesOf kindOf mayDo acts actsOn howMany portFits
     isStep isSilent entryKind letter unused lettersUsed isLine isFormed only stepOf mayBeTaken endEntry opened byTable atEnd isOpen refusalOf setTo movedTo
-    configurationAfter pointAfter made isAccepted turned noted moments every fewSilent entryOf laneCell laneRecipe shuttleTable madePart
+    configurationAfter pointAfter made isAccepted turned noted moments every fewSilent entryOf filled laneCell laneRecipe shuttleTable madePart
 computed = record { sized = refl; in-range = refl; six = refl; eight = refl; some = refl; many = refl }
 
 -- "shuttles a pallet for ever"

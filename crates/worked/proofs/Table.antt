@@ -24,6 +24,7 @@ use Rattle.worked.proofs.Limit.{Limit, limit}
 use Rattle.worked.proofs.Moves.{Moves, moves}
 use Rattle.worked.proofs.Plans.{computed, bench-planned}
 use Rattle.worked.proofs.Called.{Bench, bench-called, short-scratch, dead-called, end-called}
+use Rattle.worked.proofs.Rework.{Rework, rework}
 use Rattle.worked.proofs.Shuttle.{computed as shuttle-computed, shuttle-not}
 
 pub record Table : Type 0 where
@@ -62,6 +63,8 @@ pub record Table : Type 0 where
       → 6 ≤ length table
       → 6 ≤ length scratch
       → verdict ≡ Accepted
+  -- misreadings: "a least set, which loses rework loops"
+  pub of-rework : Rework
   -- worthless versions: "shuttles a pallet for ever", where the rules before 15 pass
   pub of-shuttle-rules : checkSizes laneCell laneRecipe ≡ Accepted
   pub of-shuttle : (before : List ℕ) (refused : Bool) → Planned laneCell laneRecipe before shuttleTable refused → ⊥
@@ -79,6 +82,7 @@ table =
       of-short-scratch = short-scratch;
       of-dead-recipe = dead-called;
       of-end-recipe = end-called;
+      of-rework = rework;
       of-shuttle-rules = shuttle-computed .sized;
       of-shuttle = shuttle-not;
     }

@@ -2,3 +2,4 @@ pub mod Bench
 pub mod Moves
 pub mod Plans
 pub mod Worthless
+pub mod LeastSet

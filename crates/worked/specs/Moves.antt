@@ -1,8 +1,8 @@
 -- The moves that `walk` prints in the bench example, the table that holds them, and the example at the limit. Assumes nothing.
 use mathlib.Core.Bool.{cond, _||_}
 use mathlib.Core.List.{List, [], _∷_, _++_}
-use Prim.Native.Nat.{ℕ, _+_}
-use lib.ListN.{replicate}
+use Prim.Native.Nat.{ℕ, _+_, _-_}
+use lib.ListN.{length, replicate}
 use lib.Dec.{eqb, leb}
 use Rattle.refusals.specs.Search.{tabulate}
 use Rattle.cell.specs.declared.Cell.{Cell}
@@ -12,10 +12,11 @@ use Rattle.positions.specs.Sizes.{sizesOf}
 use Rattle.positions.specs.Position.{positionOf, pointAt, configurationAt}
 use Rattle.steps.specs.Single.{opens, makes, leadsTo}
 
--- the bench example's records, an array for each field, filled with 0 to 64 lines
+-- a field of a record's lines, filled with 0 to 64 lines
 unfoldable pub filled : List ℕ → List ℕ
-filled lines = lines ++ replicate 59 0
+filled lines = lines ++ replicate (64 - length lines) 0
 
+-- the bench example's records
 unfoldable pub benchCell : Cell
 benchCell =
     record {
@@ -73,11 +74,11 @@ unfoldable pub limitCell : ℕ → Cell
 limitCell most =
     record {
       count = 3;
-      resource = 0 ∷ 1 ∷ 2 ∷ [];
-      from = replicate 3 0;
-      act = replicate 3 0;
-      arg = replicate 3 0;
-      to = most ∷ 3 ∷ 3 ∷ [];
+      resource = filled (0 ∷ 1 ∷ 2 ∷ []);
+      from = filled [];
+      act = filled [];
+      arg = filled [];
+      to = filled (most ∷ 3 ∷ 3 ∷ []);
     }
 
 -- "P 5, N 16": fifteen dos in a row that give part 4, and an end
@@ -85,11 +86,11 @@ unfoldable pub limitRecipe : Recipe
 limitRecipe =
     record {
       count = 16;
-      point = tabulate 16 (λ n. n);
-      kind = replicate 15 1 ++ (0 ∷ []);
-      op = replicate 16 0;
-      takes = replicate 16 0;
-      gives = replicate 15 16 ++ (0 ∷ []);
-      then = tabulate 15 (λ n. n + 1) ++ (0 ∷ []);
-      otherwise = replicate 16 0;
+      point = filled (tabulate 16 (λ n. n));
+      kind = filled (replicate 15 1);
+      op = filled [];
+      takes = filled [];
+      gives = filled (replicate 15 16);
+      then = filled (tabulate 15 (λ n. n + 1));
+      otherwise = filled [];
     }

@@ -2,7 +2,6 @@
 -- recipes that document 01 changes it to. Assumes nothing.
 use mathlib.Core.List.{List, [], _∷_}
 use Prim.Native.Nat.{ℕ}
-use lib.ListN.{replicate}
 use Rattle.recipe.specs.declared.Recipe.{Recipe}
 use Rattle.worked.specs.Moves.{filled}
 
@@ -42,11 +41,11 @@ unfoldable pub endRecipe : Recipe
 endRecipe =
     record {
       count = 1;
-      point = replicate 64 0;
-      kind = replicate 64 0;
-      op = replicate 64 0;
-      takes = replicate 64 0;
-      gives = replicate 64 0;
-      then = replicate 64 0;
-      otherwise = replicate 64 0;
+      point = filled [];
+      kind = filled [];
+      op = filled [];
+      takes = filled [];
+      gives = filled [];
+      then = filled [];
+      otherwise = filled [];
     }

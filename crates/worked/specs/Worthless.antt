@@ -1,22 +1,23 @@
 -- "shuttles a pallet for ever": a cell of two stations that hand a pallet to and fro, a recipe that makes a part at the first
 -- and takes it at the second, and the table that never lets it be taken. Assumes nothing.
-use mathlib.Core.List.{List, [], _∷_, _++_}
+use mathlib.Core.List.{List, [], _∷_}
 use Prim.Native.Nat.{ℕ}
 use lib.ListN.{replicate}
 use Rattle.cell.specs.declared.Cell.{Cell}
 use Rattle.recipe.specs.declared.Recipe.{Recipe}
 use Rattle.positions.specs.declared.Configuration.{Configuration}
+use Rattle.worked.specs.Moves.{filled}
 
 -- lines `0,0,1,1,0` `0,0,3,1,0` `1,0,2,1,0` `1,0,3,2,0` `0,0,2,2,0` `1,0,1,2,0`
 unfoldable pub laneCell : Cell
 laneCell =
     record {
       count = 6;
-      resource = (0 ∷ 0 ∷ 1 ∷ 1 ∷ 0 ∷ 1 ∷ []) ++ replicate 58 0;
-      from = replicate 64 0;
-      act = (1 ∷ 3 ∷ 2 ∷ 3 ∷ 2 ∷ 1 ∷ []) ++ replicate 58 0;
-      arg = (1 ∷ 1 ∷ 1 ∷ 2 ∷ 2 ∷ 2 ∷ []) ++ replicate 58 0;
-      to = replicate 64 0;
+      resource = filled (0 ∷ 0 ∷ 1 ∷ 1 ∷ 0 ∷ 1 ∷ []);
+      from = filled [];
+      act = filled (1 ∷ 3 ∷ 2 ∷ 3 ∷ 2 ∷ 1 ∷ []);
+      arg = filled (1 ∷ 1 ∷ 1 ∷ 2 ∷ 2 ∷ 2 ∷ []);
+      to = filled [];
     }
 
 -- `0,1,1,0,1,1,0` `1,1,2,1,0,2,0` `2,0,0,0,0,0,0`
@@ -24,13 +25,13 @@ unfoldable pub laneRecipe : Recipe
 laneRecipe =
     record {
       count = 3;
-      point = (0 ∷ 1 ∷ 2 ∷ []) ++ replicate 61 0;
-      kind = (1 ∷ 1 ∷ 0 ∷ []) ++ replicate 61 0;
-      op = (1 ∷ 2 ∷ 0 ∷ []) ++ replicate 61 0;
-      takes = (0 ∷ 1 ∷ 0 ∷ []) ++ replicate 61 0;
-      gives = (1 ∷ 0 ∷ 0 ∷ []) ++ replicate 61 0;
-      then = (1 ∷ 2 ∷ 0 ∷ []) ++ replicate 61 0;
-      otherwise = replicate 64 0;
+      point = filled (0 ∷ 1 ∷ 2 ∷ []);
+      kind = filled (1 ∷ 1 ∷ 0 ∷ []);
+      op = filled (1 ∷ 2 ∷ 0 ∷ []);
+      takes = filled (0 ∷ 1 ∷ 0 ∷ []);
+      gives = filled (1 ∷ 0 ∷ 0 ∷ []);
+      then = filled (1 ∷ 2 ∷ 0 ∷ []);
+      otherwise = filled [];
     }
 
 -- at point 1 the part is handed from the first station to the second, position 4, and back, position 5

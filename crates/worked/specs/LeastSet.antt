@@ -1,0 +1,19 @@
+-- A misreading of document 01, to compare with the greatest simulation: "a least set, which loses rework loops". Assumes nothing.
+use mathlib.Core.Path.{_≡_}
+use Prim.Native.Nat.{ℕ}
+use Rattle.cell.specs.declared.Cell.{Cell}
+use Rattle.recipe.specs.declared.Recipe.{Recipe}
+use Rattle.positions.specs.declared.Configuration.{Configuration}
+use Rattle.steps.specs.Lines.{kindOf, thenOf, elseOf}
+use Rattle.simulation.specs.Simulation.{Leads}
+
+-- the least set that holds all ends, and each point with a configuration from which steps lead to members as in a simulation
+pub data Least (c : Cell) (r : Recipe) : ℕ → Configuration → Type 0 where
+  at-end : {p : ℕ} {a : Configuration} → kindOf r p ≡ 0 → Least c r p a
+  goes-on :
+      {p : ℕ} {a : Configuration} (to : Configuration)
+      → (kindOf r p ≡ 0 → ⊥)
+      → Leads c r p a to
+      → Least c r (thenOf r p) to
+      → (kindOf r p ≡ 2 → Least c r (elseOf r p) to)
+      → Least c r p a
