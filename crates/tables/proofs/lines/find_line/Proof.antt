@@ -3,7 +3,7 @@ use mathlib.Core.Path.{_≡_, ap, _∙_}
 use native.Mathlib.Omega.{arith}
 use lib.ListN.{length, drop}
 use Rattle.tables.specs.Lines.{upTo}
-use Rattle.tables.proofs.Pieces.{rest}
+use Rattle.tables.proofs.Pieces.{rest, line-within}
 use Rattle.tables.proofs.Walk.{Stands, stands-first, stands-next, found-past, found-end, found-line}
 use Rattle.tables.proofs.lines.find_line.Statement.{statement}
 use Rattle.tables.proofs.lines.find_line.Tie as tie
@@ -67,7 +67,8 @@ returns-2 c =
     let n-is : head .loop .k ≡ start .args .n = omega arith in
     let S : Stands f (start .args .n) at = rw n-is at (head .loop .inv .1) in
     let e : c .before .line-length .result ≡ length (upTo 10 (drop at f)) = c .before .line-length .ensures ∙ ap (λ l. length (upTo 10 l)) (rest f at) in
-    found-end f (start .args .n) at S (c .before .line-length .result) e (c .if2 .taken)
+    let ends : c .before .line-length .result ≡ length f - at = omega (arith, c .if2 .taken, line-within f at (c .before .line-length .result) (S .within) e) in
+    found-end f (start .args .n) at S (c .before .line-length .result) e ends
 
 returns-3 : tie.Need-returns-3 Inv-loop μ-loop
 returns-3 c =
@@ -78,7 +79,8 @@ returns-3 c =
     let n-is : head .loop .k ≡ start .args .n = omega arith in
     let S : Stands f (start .args .n) at = rw n-is at (head .loop .inv .1) in
     let e : c .before .line-length .result ≡ length (upTo 10 (drop at f)) = c .before .line-length .ensures ∙ ap (λ l. length (upTo 10 l)) (rest f at) in
-    found-line f (start .args .n) at S (c .before .line-length .result) e (c .if2 .left)
+    let more : c .before .line-length .result ≡ length f - at → ⊥ = λ (ends : c .before .line-length .result ≡ length f - at). omega (arith, c .if2 .left) in
+    found-line f (start .args .n) at S (c .before .line-length .result) e more
 
 pub find-line-spec : {M : Type 1} → statement M
 find-line-spec =
