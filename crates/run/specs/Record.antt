@@ -18,26 +18,21 @@ pub record Stored (c : Cell) (r : Recipe) (table : List ℕ) (before : Run) (out
   pub told : verdict ≡ reportOf c r table before outcome .verdict
   pub kept : after ≡ reportOf c r table before outcome .run
 
--- the record after a call: a next-move call is by value, and leaves it as it is
-unfoldable pub recordAfter : Cell → Recipe → List ℕ → Run → Call → Run
-recordAfter c r table before asks = before
-recordAfter c r table before (reports outcome) = reportOf c r table before outcome .run
+-- a list of calls on a record, with what is answered: each call on the record that the last report left. A next-move call is by
+-- value and leaves it; of a report only what `Stored` says is known
+pub data Chain (c : Cell) (r : Recipe) (table : List ℕ) : Run → List Call → List Answer → Type 0 where
+  no-call : {before : Run} → Chain c r table before [] []
+  ask-then : {before : Run} {calls : List Call} {later : List Answer} → Chain c r table before calls later
+      → Chain c r table before (asks ∷ calls) (moved (refusalIn (nextMove c r table before .verdict)) (nextMove c r table before .entry) ∷ later)
+  report-then : {before after : Run} {outcome : ℕ} {verdict : Verdict} {calls : List Call} {later : List Answer}
+      → Stored c r table before outcome verdict after
+      → Chain c r table after calls later
+      → Chain c r table before (reports outcome ∷ calls) (reported (refusalIn verdict) (after .point) (after .configuration) ∷ later)
 
--- what is answered: a report's refusal, and the point and the configuration that the record then has
-unfoldable pub recordAnswer : Cell → Recipe → List ℕ → Run → Call → Answer
-recordAnswer c r table before asks = moved (refusalIn (nextMove c r table before .verdict)) (nextMove c r table before .entry)
-recordAnswer c r table before (reports outcome) =
-    let after = recordAfter c r table before (reports outcome) in
-    reported (refusalIn (reportOf c r table before outcome .verdict)) (after .point) (after .configuration)
-
-unfoldable pub recordAnswers : Cell → Recipe → List ℕ → Run → List Call → List Answer
-recordAnswers c r table before [] = []
-recordAnswers c r table before (call ∷ calls) =
-    recordAnswer c r table before call ∷ recordAnswers c r table (recordAfter c r table before call) calls
-
--- demand 3 for a list of calls on a record
+-- demand 3 for a list of calls on a record, whatever they answer within their contracts
 pub record RecordPromises (c : Cell) (r : Recipe) (table : List ℕ) (p : ℕ) (a : Configuration) (calls : List Call) : Type 0 where
   pub same-answers :
-      recordAnswers c r table (record { point = p; configuration = a }) calls
-      ≡ answers c r (moments c r (byTable c r table) [] (opened p a) calls)
+      (told : List Answer)
+      → Chain c r table (record { point = p; configuration = a }) calls told
+      → told ≡ answers c r (moments c r (byTable c r table) [] (opened p a) calls)
   pub keeps : Keeps c r p (moments c r (byTable c r table) [] (opened p a) calls)

@@ -1,11 +1,10 @@
 -- Lists of calls on a record that each report advances in its own storage: they answer what the calls on a run by value
 -- answer, and so a closed table keeps every promise of demand 3 for them too.
 -- Assumes nothing.
-use mathlib.Core.Path.{_≡_, refl, _∙_}
+use mathlib.Core.Path.{_≡_, refl, ap, _∙_}
 use mathlib.Core.List.{List, [], _∷_}
 use Prim.Native.Nat.{ℕ, _≤_}
 use lib.ListN.{length}
-use Rattle.refusals.specs.declared.Verdict.{Verdict}
 use Rattle.refusals.specs.declared.Verdict.the-variants.{Accepted}
 use Rattle.refusals.specs.Verdict.{refusalIn}
 use Rattle.cell.specs.declared.Cell.{Cell}
@@ -14,46 +13,31 @@ use Rattle.positions.specs.declared.Configuration.{Configuration}
 use Rattle.positions.specs.Sizes.{sizesOf}
 use Rattle.positions.specs.Rules.{checkSizes}
 use Rattle.run.specs.declared.Run.{Run}
-use Rattle.run.specs.Book.{Call, asks, reports, reported}
+use Rattle.run.specs.Calls.{nextMove}
+use Rattle.run.specs.Book.{Call, Answer, moved, reported}
 use Rattle.run.specs.Promises.{runAfter, runAnswer, runAnswers, Promises}
-use Rattle.run.specs.Record.{Stored, recordAfter, recordAnswer, recordAnswers, RecordPromises}
+use Rattle.run.specs.Record.{Chain, no-call, ask-then, report-then, RecordPromises}
 use Rattle.simulation.specs.Simulation.{Position}
 use Rattle.simulation.specs.Plan.{entryOf}
 use Rattle.simulation.proofs.Promised.{ClosedTable, closed-promises}
 
--- so a report that ensures what `report_record` ensures leaves that record, and answers that
-module _ (c : Cell) (r : Recipe) (table : List ℕ) (before : Run) (outcome : ℕ) (verdict : Verdict) (after : Run) (stored : Stored c r table before outcome verdict after) where
-  pub stored-after : after ≡ recordAfter c r table before (reports outcome)
-  unfolding recordAfter
-  stored-after = stored .kept
-
-  pub stored-answer : reported (refusalIn verdict) (after .point) (after .configuration) ≡ recordAnswer c r table before (reports outcome)
-  unfolding recordAnswer recordAfter
-  stored-answer = λ i. reported (refusalIn (stored .told i)) (stored .kept i .point) (stored .kept i .configuration)
-
--- "equal in all else": a call answers what it answers by value, and the record is the run that the call leaves
-module _ (c : Cell) (r : Recipe) (table : List ℕ) where
-  pub record-after : (before : Run) (call : Call) → recordAfter c r table before call ≡ runAfter c r table before call
-  unfolding recordAfter runAfter
-  record-after before asks = refl
-  record-after before (reports outcome) = refl
-
-  pub record-answer : (before : Run) (call : Call) → recordAnswer c r table before call ≡ runAnswer c r table before call
-  unfolding recordAnswer recordAfter runAnswer
-  record-answer before asks = refl
-  record-answer before (reports outcome) = refl
-
-  pub record-answers : (calls : List Call) (before : Run) → recordAnswers c r table before calls ≡ runAnswers c r table before calls
-  unfolding recordAnswers runAnswers
-  record-answers [] before = refl
-  record-answers (call ∷ calls) before =
-      rw (record-answer before call, record-after before call, record-answers calls (runAfter c r table before call))
+-- "equal in all else": reports that ensure what `report_record` ensures answer what the reports by value answer
+pub chain-answers :
+    (c : Cell) (r : Recipe) (table : List ℕ) (before : Run) (calls : List Call) (told : List Answer)
+    → Chain c r table before calls told
+    → told ≡ runAnswers c r table before calls
+unfolding runAnswers runAnswer runAfter
+chain-answers c r table before calls told no-call = refl
+chain-answers c r table before calls told (ask-then {calls = after} {later = later} chain) =
+    ap (λ (l : List Answer). moved (refusalIn (nextMove c r table before .verdict)) (nextMove c r table before .entry) ∷ l) (chain-answers c r table before after later chain)
+chain-answers c r table before calls told (report-then {after = kept} {outcome = outcome} {verdict = verdict} {calls = after} {later = later} stored chain) = λ i.
+    reported (refusalIn (stored .told i)) (stored .kept i .point) (stored .kept i .configuration) ∷ (chain-answers c r table kept after later chain ∙ ap (λ (run : Run). runAnswers c r table run after) (stored .kept)) i
 
 -- the promises for the calls by value are those for the calls on a record
 pub recorded : (c : Cell) (r : Recipe) (table : List ℕ) (p : ℕ) (a : Configuration) (calls : List Call) → Promises c r table p a calls → RecordPromises c r table p a calls
 recorded c r table p a calls promised =
     record {
-      same-answers = record-answers c r table calls (record { point = p; configuration = a }) ∙ promised .same-answers;
+      same-answers = λ told chain. chain-answers c r table (record { point = p; configuration = a }) calls told chain ∙ promised .same-answers;
       keeps = promised .keeps;
     }
 
