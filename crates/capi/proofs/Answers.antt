@@ -14,7 +14,7 @@ use Rattle.recipe.specs.declared.Recipe.{Recipe}
 use Rattle.run.specs.declared.Report.{Report}
 use Rattle.planner.specs.Call.{PlanCall}
 use Rattle.capi.specs.Encoding.{codeOf, runBytes}
-use Rattle.capi.specs.Answer.{Answered, Reported, Advanced, PlanAnswered}
+use Rattle.capi.specs.Answer.{Answered, Reported, PlanAnswered}
 
 module _ (verdict : Verdict) (bytes : List ℕ) (size : ℕ) (entry : List ℕ) where
   pub too-short : (answer : ℕ) → length entry < size → answer ≡ numberOf TooShort → Answered verdict bytes size entry entry answer
@@ -24,22 +24,17 @@ module _ (verdict : Verdict) (bytes : List ℕ) (size : ℕ) (entry : List ℕ) 
       → Answered verdict bytes size entry exit answer
   answered exit answer room e put = record { answer-is = rw (le-ltb (length entry) size room) e; buffer-is = rw (le-ltb (length entry) size room) put }
 
--- a report on a record: the number and the run are the answer's
-module _ (report answer : Report) (refusal : ℕ) (same : answer ≡ report) (number : refusal ≡ refusalIn (answer .verdict)) where
+-- the two ends of a report: the lent run is too short and stays, or it holds the answer's run
+module _ (report answer : Report) (entry : List ℕ) (refusal : ℕ) (same : answer ≡ report) (number : refusal ≡ refusalIn (answer .verdict)) where
   told : refusal ≡ refusalIn (report .verdict)
   told = number ∙ ap (λ (r : Report). refusalIn (r .verdict)) same
 
-  pub report-advanced : Advanced report (answer .run) refusal
-  report-advanced = record { answer-is = told; run-is = ap (λ (r : Report). r .run) same }
-
--- the two ends of a report: the lent run is too short and stays, or it holds the answer's run
-module _ (report answer : Report) (entry : List ℕ) (refusal : ℕ) (same : answer ≡ report) (number : refusal ≡ refusalIn (answer .verdict)) where
   pub report-short : length entry < 15 → Reported report entry entry refusal
-  report-short short = record { answer-is = told report answer refusal same number; run-is = rw (lt-ltb (length entry) 15 short) }
+  report-short short = record { answer-is = told; run-is = rw (lt-ltb (length entry) 15 short) }
 
   pub report-put : (exit : List ℕ) → 15 ≤ length entry → exit ≡ runBytes (answer .run) ++ drop 15 entry → Reported report entry exit refusal
   report-put exit room put =
-      record { answer-is = told report answer refusal same number; run-is = rw (le-ltb (length entry) 15 room) (put ∙ ap (λ (r : Report). runBytes (r .run) ++ drop 15 entry) same) }
+      record { answer-is = told; run-is = rw (le-ltb (length entry) 15 room) (put ∙ ap (λ (r : Report). runBytes (r .run) ++ drop 15 entry) same) }
 
 -- the plan call on the records that the bytes hold
 pub plan-answered :

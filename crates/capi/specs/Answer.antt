@@ -15,6 +15,7 @@ use Rattle.run.specs.declared.Move.{Move}
 use Rattle.run.specs.declared.Place.{Place}
 use Rattle.run.specs.declared.Report.{Report}
 use Rattle.run.specs.declared.Run.{Run}
+use Rattle.run.specs.Record.{Stored}
 use Rattle.planner.specs.Call.{PlanCall}
 use Rattle.capi.specs.Encoding.{codeOf, runBytes}
 
@@ -37,10 +38,11 @@ pub record Reported (report : Report) (entry exit : List ℕ) (answer : ℕ) : T
   pub answer-is : answer ≡ refusalIn (report .verdict)
   pub run-is : exit ≡ cond (ltb (length entry) 15) entry (runBytes (report .run) ++ drop 15 entry)
 
--- "refusal or 0"; a record in its own storage is the next run, and stays if the report is refused, since a refused report holds its own run
-pub record Advanced (report : Report) (exit : Run) (answer : ℕ) : Type 0 where
-  pub answer-is : answer ≡ refusalIn (report .verdict)
-  pub run-is : exit ≡ report .run
+-- "refusal or 0": the number of the verdict with which the report leaves the record `after`
+pub record Recorded (c : Cell) (r : Recipe) (table : List ℕ) (before : Run) (outcome : ℕ) (after : Run) (answer : ℕ) : Type 0 where
+  pub verdict : Verdict
+  pub answer-is : answer ≡ refusalIn verdict
+  pub stored : Stored c r table before outcome verdict after
 
 -- "refusal or 0": the number of the verdict with which the plan call leaves the table and the scratch so
 pub record PlanAnswered (c : Cell) (r : Recipe) (table scratch table′ scratch′ : List ℕ) (answer : ℕ) : Type 0 where

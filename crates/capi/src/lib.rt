@@ -12,7 +12,7 @@ ghost use Rattle.refusals.specs.Verdict.{refusalIn};
 ghost use Rattle.positions.specs.Rules.{checkSizes};
 ghost use Rattle.run.specs.Calls.{freshRun, nextMove, reportOf, placeOf};
 ghost use Rattle.capi.specs.Encoding.{codeOf, cellBytes, recipeBytes, cellFrom, recipeFrom, runBytes, runFrom};
-ghost use Rattle.capi.specs.Answer.{Answered, moveCode, placeCode, Reported, Advanced, PlanAnswered};
+ghost use Rattle.capi.specs.Answer.{Answered, moveCode, placeCode, Reported, Recorded, PlanAnswered};
 use refusals::Refusal;
 use refusals::Verdict;
 use run::Run;
@@ -157,23 +157,6 @@ pub extern "C" fn cellplan_report(
     refusal
 }
 
-// What a report on a record answers: the refusal's number and the same run, or 0 and the next run.
-struct Next {
-    refusal: u32,
-    run: Run,
-}
-
-// Reports on a run by value.
-fn advance(run: Run, cell: &[u8], recipe: &[u8], table: &[u32], outcome: u8) -> Next
-    ensures { λ r. ⌜ Advanced (reportOf (cellFrom (now (cell .entry))) (recipeFrom (now (recipe .entry))) (now (table .entry)) run outcome) (r .run) (r .refusal) ⌝ }
-{
-    let answer = run.report(get::get_cell(cell), get::get_recipe(recipe), table, outcome);
-    let verdict = answer.verdict;
-    let refusal = refusal_number(verdict) as u32;
-    let next = answer.run;
-    Next { refusal, run: next }
-}
-
 // Advances a run record in its own storage, or leaves it if the report is refused.
 #[no_mangle]
 pub extern "C" fn cellplan_report_record(
@@ -183,12 +166,10 @@ pub extern "C" fn cellplan_report_record(
     run: &mut Run,
     outcome: u8,
 ) -> u32
-    ensures { λ r. ⌜ Advanced (reportOf (cellFrom (now (cell .entry))) (recipeFrom (now (recipe .entry))) (now (table .entry)) (now (run .entry)) outcome) (now (run .exit)) r ⌝ }
+    ensures { λ r. ⌜ Recorded (cellFrom (now (cell .entry))) (recipeFrom (now (recipe .entry))) (now (table .entry)) (now (run .entry)) outcome (now (run .exit)) r ⌝ }
 {
-    let before = *run;
-    let answer = advance(before, cell, recipe, table, outcome);
-    *run = answer.run;
-    answer.refusal
+    let verdict = run::report_record(run, get::get_cell(cell), get::get_recipe(recipe), table, outcome);
+    refusal_number(verdict) as u32
 }
 
 // The place of a part.
