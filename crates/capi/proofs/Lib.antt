@@ -1,3 +1,5 @@
--- Rows of bytes put one after another, and what a reader answers.
+-- Rows of bytes put one after another (Rows), and what a call that writes answers (Answers). For callers: decoding what was
+-- encoded gives it back (Decoding).
 mod Rows
 mod Answers
+pub mod Decoding

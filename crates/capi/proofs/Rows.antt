@@ -53,7 +53,7 @@ put-none row k count entry some =
     record { at-is = omega arith; size = refl; is = set-split entry 0 count some ∙ ap (λ (l : List ℕ). count ∷ l) (sym (drop-set-lt 1 entry 0 count (omega arith))) }
 
 module _ (row : ℕ → List ℕ) (k : ℕ) (wide : (n : ℕ) → length (row n) ≡ k) where
-  rows-length : (n : ℕ) → length (rowsOf row n) ≡ k * n
+  pub rows-length : (n : ℕ) → length (rowsOf row n) ≡ k * n
   unfolding rowsOf
   rows-length zero = omega arith
   rows-length (suc n) = length-append (rowsOf row n) (row n) ∙ omega (arith, rows-length n, wide n)

@@ -1,0 +1,45 @@
+-- Demand 3 through the C interface: "take any list of next-move calls and reports from a fresh run, .. each call on the run that
+-- the last report left", the run being the caller's bytes. Assumes nothing.
+use mathlib.Core.Path.{_≡_}
+use mathlib.Core.List.{List, [], _∷_, map}
+use Prim.Native.Nat.{ℕ, _+_, _*_, _^_}
+use Rattle.run.specs.declared.Run.{Run}
+use Rattle.run.specs.Calls.{nextMove, reportOf}
+use Rattle.run.specs.Book.{Call, asks, reports, Answer, moved, reported, opened, byTable, moments, answers}
+use Rattle.run.specs.Promises.{Keeps}
+use Rattle.capi.specs.Encoding.{cellFrom, recipeFrom, runFrom}
+use Rattle.capi.specs.Answer.{moveCode, Reported}
+
+-- what a caller has after a call: a next-move call's number; a report's number, and the run that the bytes then hold
+pub data Found : Type 0 where
+  numbered : ℕ → Found
+  held : ℕ → Run → Found
+
+-- an answer of the book as a caller has it: "refusal × 2^32 + entry"; "refusal or 0; the run's bytes are the next run"
+unfoldable pub foundOf : Answer → Found
+foundOf (moved refusal entry) = numbered (refusal * 2 ^ 32 + entry)
+foundOf (reported refusal point configuration) = held refusal (record { point = point; configuration = configuration })
+
+-- a list of calls on the bytes of a run, with what is found. Of each call only its contract is known; a next-move call is lent
+-- the bytes to read, and leaves them
+pub data ByteCalls (cell recipe table : List ℕ) : List ℕ → List Call → List Found → Type 0 where
+  no-call : {bytes : List ℕ} → ByteCalls cell recipe table bytes [] []
+  ask-then : {bytes : List ℕ} {number : ℕ} {calls : List Call} {later : List Found}
+      → number ≡ moveCode (nextMove (cellFrom cell) (recipeFrom recipe) table (runFrom bytes))
+      → ByteCalls cell recipe table bytes calls later
+      → ByteCalls cell recipe table bytes (asks ∷ calls) (numbered number ∷ later)
+  report-then : {entry exit : List ℕ} {outcome answer : ℕ} {calls : List Call} {later : List Found}
+      → Reported (reportOf (cellFrom cell) (recipeFrom recipe) table (runFrom entry) outcome) entry exit answer
+      → ByteCalls cell recipe table exit calls later
+      → ByteCalls cell recipe table entry (reports outcome ∷ calls) (held answer (runFrom exit) ∷ later)
+
+-- demand 3 for a list of calls on bytes that hold a run, whatever the calls find within their contracts
+pub record BytePromises (cell recipe table bytes : List ℕ) (calls : List Call) : Type 0 where
+  pub same-answers :
+      (found : List Found)
+      → ByteCalls cell recipe table bytes calls found
+      → found
+      ≡ map foundOf (answers (cellFrom cell) (recipeFrom recipe) (moments (cellFrom cell) (recipeFrom recipe) (byTable (cellFrom cell) (recipeFrom recipe) table) [] (opened (runFrom bytes .point) (runFrom bytes .configuration)) calls))
+  pub keeps :
+      Keeps (cellFrom cell) (recipeFrom recipe) (runFrom bytes .point)
+      (moments (cellFrom cell) (recipeFrom recipe) (byTable (cellFrom cell) (recipeFrom recipe) table) [] (opened (runFrom bytes .point) (runFrom bytes .configuration)) calls)
