@@ -13,6 +13,7 @@ use Rattle.refusals.specs.Search.{tabulate}
 use Rattle.refusals.proofs.Listed.{tabulate-is}
 use Rattle.cell.specs.declared.Cell.{Cell}
 use Rattle.recipe.specs.declared.Recipe.{Recipe}
+use Rattle.positions.specs.declared.Configuration.{Configuration}
 use Rattle.run.specs.declared.Run.{Run}
 use Rattle.capi.specs.Encoding.{rowsOf, cellRow, cellBytes, recipeRow, recipeBytes, columnOf, cellFrom, recipeFrom, runBytes, runFrom}
 use Rattle.capi.proofs.Rows.{rows-length}
@@ -99,12 +100,16 @@ recipe-back r rest whole =
       otherwise = column-back (recipeRow r) 7 wide (r .count) rest 6 (r .otherwise) (omega arith) (whole .otherwise) (λ n. refl) i;
     })
 
--- a run as it stands in memory: six states and eight places
-pub record WholeRun (run : Run) : Type 0 where
-  pub six : length (run .configuration .state) ≡ 6
-  pub eight : length (run .configuration .place) ≡ 8
+-- a configuration as it stands in memory: six states and eight places
+pub record Whole (a : Configuration) : Type 0 where
+  pub six : length (a .state) ≡ 6
+  pub eight : length (a .place) ≡ 8
 
-pub run-back : (run : Run) (rest : List ℕ) → WholeRun run → runFrom (runBytes run ++ rest) ≡ run
+pub run-length : (run : Run) → length (runBytes run) ≡ 15
+unfolding runBytes tabulate
+run-length run = refl
+
+pub run-back : (run : Run) (rest : List ℕ) → Whole (run .configuration) → runFrom (runBytes run ++ rest) ≡ run
 unfolding runFrom runBytes tabulate
 run-back run rest whole =
     let long : 15 ≤ length (runBytes run ++ rest) = omega (arith, length-append (runBytes run) rest) in

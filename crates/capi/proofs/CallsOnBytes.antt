@@ -1,0 +1,218 @@
+-- Demand 3 for lists of next-move calls and reports through the C interface, from the contracts of these calls alone: what a
+-- caller finds is what the book answers, from every bytes that hold a run at an entry of a plan other than 0, and so from a
+-- fresh run where the plan was accepted.
+-- Assumes nothing.
+use mathlib.Core.Path.{_≡_, refl, sym, ap, subst, _∙_}
+use mathlib.Core.Bool.{Bool, true, false, cond}
+use mathlib.Core.List.{List, _∷_, _++_, map}
+use Prim.Native.Nat.{ℕ, _≤_}
+use native.Mathlib.Omega.{arith}
+use lib.ListN.{length, drop, length-append, length-map}
+use lib.Dec.{eqb, ltb}
+use borrow.Author.Tests.{le-ltb, ltb-false}
+use Rattle.refusals.specs.declared.Refusal.{Refusal}
+use Rattle.refusals.specs.declared.Refusal.the-variants.{Names, Form, LineCount, Range, ResourceGap, NoPartner, PointOrder, RepeatedPoint, UnusedField, NoParts, CommonPart, TargetPoint, TooManyPositions, TooShort, NotRealisable, RunRange, OutcomeRange, NotOpen, AtEnd}
+use Rattle.refusals.specs.declared.Verdict.{Verdict}
+use Rattle.refusals.specs.declared.Verdict.the-variants.{Accepted, Refused}
+use Rattle.refusals.specs.Refusal.{numberOf}
+use Rattle.refusals.specs.Verdict.{noLine, refusalIn}
+use Rattle.refusals.specs.Search.{tabulate}
+use Rattle.refusals.proofs.Listed.{length-tabulate}
+use Rattle.refusals.proofs.Verdicts.{first-accepts, next-accepts}
+use Rattle.cell.specs.declared.Cell.{Cell}
+use Rattle.recipe.specs.declared.Recipe.{Recipe}
+use Rattle.positions.specs.declared.Configuration.{Configuration}
+use Rattle.positions.specs.Position.{start}
+use Rattle.positions.specs.Rules.{checkRecords, checkSizes}
+use Rattle.steps.specs.Lines.{linesOf, kindOf, placeOf}
+use Rattle.steps.specs.Carry.{placed, partsMoved}
+use Rattle.steps.specs.Entry.{entryKind, letter}
+use Rattle.steps.specs.Single.{statesAfter, linesTaken, transferred, carried, makes}
+use Rattle.steps.proofs.Afterwards.{length-states}
+use Rattle.run.specs.declared.Run.{Run}
+use Rattle.run.specs.declared.Report.{Report}
+use Rattle.run.specs.Calls.{freshRun, nextRun, reportAnswer, reportOf, entryAt}
+use Rattle.run.specs.Book.{Call}
+use Rattle.run.specs.Promises.{runAfter, runAnswer, runAnswers}
+use Rattle.simulation.specs.Simulation.{Position}
+use Rattle.simulation.specs.Plan.{entryOf, Planned}
+use Rattle.simulation.proofs.Planning.{starts}
+use Rattle.planner.specs.Call.{checkPlan, Filled}
+use Rattle.capi.specs.Encoding.{codeOf, cellFrom, recipeFrom, runBytes, runFrom}
+use Rattle.capi.specs.Answer.{Answered, moveCode, Reported, PlanAnswered}
+use Rattle.capi.specs.Lists.{Found, numbered, held, foundOf, ByteCalls, no-call, ask-then, report-then, BytePromises}
+use Rattle.capi.proofs.Decoding.{Whole, run-length, run-back}
+
+-- what an entry makes of six states and eight places are six and eight again
+made-whole : (c : Cell) (r : Recipe) (p e : ℕ) (a : Configuration) → Whole a → Whole (makes c r p a e)
+unfolding makes linesTaken transferred carried partsMoved
+made-whole c r p e a whole = decide (eqb (entryKind e) 1) (eqb (entryKind e) 2) (eqb (entryKind e) 3) (eqb (kindOf r p) 1)
+  where
+    states : (n : ℕ) → length (statesAfter (c .resource) (c .to) (letter e) n (a .state)) ≡ 6
+    states n = length-states c (letter e) n (a .state) ∙ whole .six
+
+    decide : (s t u d : Bool) → Whole (cond s (linesTaken c e 1 a) (cond t (transferred c e a) (cond u (cond d (partsMoved c r p (letter e) (linesTaken c e (linesOf r p) a)) (linesTaken c e (linesOf r p) a)) a)))
+    decide true t u d = record { six = states 1; eight = whole .eight }
+    decide false true u d = record { six = states 2; eight = length-map (a .place) _ ∙ whole .eight }
+    decide false false true true = record { six = states (linesOf r p); eight = length-tabulate (λ q. placed c r p (letter e) q (placeOf (linesTaken c e (linesOf r p) a) q)) 8 }
+    decide false false true false = record { six = states (linesOf r p); eight = whole .eight }
+    decide false false false d = whole
+
+-- so is the run of a report's answer
+answer-whole : (verdict : Verdict) (run next : Run) → Whole (run .configuration) → Whole (next .configuration) → Whole (reportAnswer verdict run next .run .configuration)
+unfolding reportAnswer
+answer-whole Accepted run next own other = other
+answer-whole (Refused refusal line) run next own other = own
+
+report-whole : (c : Cell) (r : Recipe) (table : List ℕ) (run : Run) (outcome : ℕ) → Whole (run .configuration) → Whole (reportOf c r table run outcome .run .configuration)
+unfolding reportOf nextRun
+report-whole c r table run outcome whole =
+    answer-whole _ run _ whole (made-whole c r (run .point) (entryAt c r table run) (run .configuration) whole)
+
+-- and the run that bytes hold
+bytes-whole : (bytes : List ℕ) → 15 ≤ length bytes → Whole (runFrom bytes .configuration)
+unfolding runFrom tabulate
+bytes-whole bytes long = rw (le-ltb (length bytes) 15 long) (record { six = refl; eight = refl })
+
+-- the bytes after a report hold the run that it answers, and are no fewer than a run's
+module _ (report : Report) (entry exit : List ℕ) (answer : ℕ) (long : 15 ≤ length entry) (told : Reported report entry exit answer) where
+  written : exit ≡ runBytes (report .run) ++ drop 15 entry
+  written = told .run-is ∙ rw (le-ltb (length entry) 15 long)
+
+  still-long : 15 ≤ length exit
+  still-long = omega (arith, ap length written, length-append (runBytes (report .run)) (drop 15 entry), run-length (report .run))
+
+  holds : Whole (report .run .configuration) → runFrom exit ≡ report .run
+  holds whole = ap runFrom written ∙ run-back (report .run) (drop 15 entry) whole
+
+-- calls on bytes find what calls on the run by value answer
+found-answers :
+    (cell recipe table bytes : List ℕ) (calls : List Call) (found : List Found)
+    → 15 ≤ length bytes
+    → ByteCalls cell recipe table bytes calls found
+    → found ≡ map foundOf (runAnswers (cellFrom cell) (recipeFrom recipe) table (runFrom bytes) calls)
+unfolding runAnswers runAnswer runAfter foundOf moveCode
+found-answers cell recipe table bytes calls found long no-call = refl
+found-answers cell recipe table bytes calls found long (ask-then {calls = after} {later = later} is chain) = λ i.
+    numbered (is i) ∷ found-answers cell recipe table bytes after later long chain i
+found-answers cell recipe table bytes calls found long (report-then {exit = exit} {outcome = outcome} {answer = answer} {calls = after} {later = later} told chain) =
+    let c = cellFrom cell in
+    let r = recipeFrom recipe in
+    let report : Report = reportOf c r table (runFrom bytes) outcome in
+    let same : runFrom exit ≡ report .run = holds report bytes exit answer long told (report-whole c r table (runFrom bytes) outcome (bytes-whole bytes long)) in
+    let rest : later ≡ map foundOf (runAnswers c r table (report .run) after) =
+    found-answers cell recipe table exit after later (still-long report bytes exit answer long told) chain ∙ ap (λ (run : Run). map foundOf (runAnswers c r table run after)) same in
+    λ i. held (told .answer-is i) (same i) ∷ rest i
+
+-- demand 3, from bytes that hold a run at a position with an entry other than 0, also when 15 is given
+pub bytes-keep :
+    (cell recipe before table bytes : List ℕ) (refused : Bool)
+    → Planned (cellFrom cell) (recipeFrom recipe) before table refused
+    → 15 ≤ length bytes
+    → Position (cellFrom cell) (recipeFrom recipe) (runFrom bytes .point) (runFrom bytes .configuration)
+    → (entryOf (cellFrom cell) (recipeFrom recipe) table (runFrom bytes .point) (runFrom bytes .configuration) ≡ 0 → ⊥)
+    → (calls : List Call)
+    → BytePromises cell recipe table bytes calls
+bytes-keep cell recipe before table bytes refused planned long position alive calls =
+    let kept = planned .promises (runFrom bytes .point) (runFrom bytes .configuration) position alive calls in
+    record {
+      same-answers = λ found chain. found-answers cell recipe table bytes calls found long chain ∙ ap (map foundOf) (kept .same-answers);
+      keeps = kept .keeps;
+    }
+
+-- no refusal has the number 0
+number-some : (refusal : Refusal) → 1 ≤ numberOf refusal
+number-some Names = omega arith
+number-some Form = omega arith
+number-some LineCount = omega arith
+number-some Range = omega arith
+number-some ResourceGap = omega arith
+number-some NoPartner = omega arith
+number-some PointOrder = omega arith
+number-some RepeatedPoint = omega arith
+number-some UnusedField = omega arith
+number-some NoParts = omega arith
+number-some CommonPart = omega arith
+number-some TargetPoint = omega arith
+number-some TooManyPositions = omega arith
+number-some TooShort = omega arith
+number-some NotRealisable = omega arith
+number-some RunRange = omega arith
+number-some OutcomeRange = omega arith
+number-some NotOpen = omega arith
+number-some AtEnd = omega arith
+
+-- a plan call that answers 0 has left a plan, and the start has an entry
+module _ (c : Cell) (r : Recipe) (table scratch table′ scratch′ : List ℕ) (plan : PlanAnswered c r table scratch table′ scratch′ 0) where
+  passes : checkPlan c r (length table) (length scratch) ≡ Accepted
+  unfolding refusalIn
+  passes = decide (checkPlan c r (length table) (length scratch)) refl
+    where
+      decide : (verdict : Verdict) → checkPlan c r (length table) (length scratch) ≡ verdict → checkPlan c r (length table) (length scratch) ≡ Accepted
+      decide Accepted e = e
+      decide (Refused refusal line) e =
+          let none : (checkPlan c r (length table) (length scratch) ≡ Accepted → ⊥) = λ accepts. omega (arith, number-some refusal, ap refusalIn (sym accepts ∙ e)) in
+          let zero : 0 ≡ numberOf refusal = plan .answer-is ∙ ap refusalIn (plan .call .refused-first none .answer ∙ e) in
+          let never : ⊥ = omega (arith, number-some refusal) in
+          absurd never
+
+  filled : Filled c r table scratch table′ scratch′ (plan .verdict)
+  filled = plan .call .passed passes
+
+  accepted : filled .refused ≡ false
+  unfolding refusalIn noLine
+  accepted = decide (filled .refused) refl
+    where
+      decide : (refused : Bool) → filled .refused ≡ refused → filled .refused ≡ false
+      decide false e = e
+      decide true e =
+          let z : _≡_ {A = ℕ} 0 15 = plan .answer-is ∙ ap refusalIn (filled .answer ∙ ap (noLine NotRealisable) e) in
+          let never : ⊥ = omega arith in
+          absurd never
+
+  begins : Position c r 0 start
+  unfolding checkPlan checkSizes checkRecords
+  begins =
+      let checked : checkRecords c r ≡ Accepted = first-accepts _ _ (first-accepts _ _ passes) in
+      starts c r (first-accepts _ _ checked) (next-accepts _ _ checked)
+
+  alive : entryOf c r table′ 0 start ≡ 0 → ⊥
+  alive zero = filled .planned .zero-lacks 0 start begins zero (filled .planned .accepted-holds accepted)
+
+-- a fresh call that answers 0 has written a fresh run
+module _ (entry bytes : List ℕ) (fresh : Answered Accepted (runBytes freshRun) 15 entry bytes 0) where
+  room : 15 ≤ length entry
+  room = decide (ltb (length entry) 15) refl
+    where
+      decide : (short : Bool) → ltb (length entry) 15 ≡ short → 15 ≤ length entry
+      decide false e = ltb-false (length entry) 15 e
+      decide true e =
+          let z : _≡_ {A = ℕ} 0 14 = fresh .answer-is ∙ rw e in
+          omega arith
+
+  put-fresh : bytes ≡ runBytes freshRun ++ drop 15 entry
+  put-fresh = fresh .buffer-is ∙ rw (le-ltb (length entry) 15 room)
+
+  holds-fresh : runFrom bytes ≡ freshRun
+  unfolding freshRun start
+  holds-fresh = ap runFrom put-fresh ∙ run-back freshRun (drop 15 entry) (record { six = refl; eight = refl })
+
+  fresh-long : 15 ≤ length bytes
+  fresh-long = omega (arith, ap length put-fresh, length-append (runBytes freshRun) (drop 15 entry), run-length freshRun)
+
+-- so demand 3 holds where `cellplan_plan` answered 0, from the bytes in which `cellplan_fresh` wrote a run
+pub fresh-keeps :
+    (cell recipe table scratch table′ scratch′ entry bytes : List ℕ)
+    → PlanAnswered (cellFrom cell) (recipeFrom recipe) table scratch table′ scratch′ 0
+    → Answered Accepted (runBytes freshRun) 15 entry bytes 0
+    → (calls : List Call)
+    → BytePromises cell recipe table′ bytes calls
+unfolding freshRun
+fresh-keeps cell recipe table scratch table′ scratch′ entry bytes plan fresh =
+    let c = cellFrom cell in
+    let r = recipeFrom recipe in
+    let same : freshRun ≡ runFrom bytes = sym (holds-fresh entry bytes fresh) in
+    let left = filled c r table scratch table′ scratch′ plan in
+    bytes-keep cell recipe table table′ bytes (left .refused) (left .planned) (fresh-long entry bytes fresh)
+    (subst (λ (run : Run). Position c r (run .point) (run .configuration)) same (begins c r table scratch table′ scratch′ plan))
+    (subst (λ (run : Run). entryOf c r table′ (run .point) (run .configuration) ≡ 0 → ⊥) same (alive c r table scratch table′ scratch′ plan))
