@@ -1,10 +1,10 @@
 -- Demand 3 for lists of next-move calls and reports through the C interface, from the contracts of these calls alone: what a
--- caller finds is what the book answers, from every bytes that hold a run at an entry of a plan other than 0, and so from a
--- fresh run where the plan was accepted.
+-- caller finds is what the book answers, from every run at an entry of a plan other than 0, held by bytes or a record, and so
+-- from a fresh run where the plan was accepted.
 -- Assumes nothing.
 use mathlib.Core.Path.{_≡_, refl, sym, ap, subst, _∙_}
 use mathlib.Core.Bool.{Bool, true, false, cond}
-use mathlib.Core.List.{List, _∷_, _++_, map}
+use mathlib.Core.List.{List, [], _∷_, _++_, map, append-nil}
 use Prim.Native.Nat.{ℕ, _≤_}
 use native.Mathlib.Omega.{arith}
 use lib.ListN.{length, drop, length-append, length-map}
@@ -31,7 +31,7 @@ use Rattle.steps.specs.Single.{statesAfter, linesTaken, transferred, carried, m
 use Rattle.steps.proofs.Afterwards.{length-states}
 use Rattle.run.specs.declared.Run.{Run}
 use Rattle.run.specs.declared.Report.{Report}
-use Rattle.run.specs.Calls.{freshRun, nextRun, reportAnswer, reportOf, entryAt}
+use Rattle.run.specs.Calls.{freshRun, nextMove, nextRun, reportAnswer, reportOf, entryAt}
 use Rattle.run.specs.Book.{Call}
 use Rattle.run.specs.Promises.{runAfter, runAnswer, runAnswers}
 use Rattle.simulation.specs.Simulation.{Position}
@@ -40,7 +40,7 @@ use Rattle.simulation.proofs.Planning.{starts}
 use Rattle.planner.specs.Call.{checkPlan, Filled}
 use Rattle.capi.specs.Encoding.{codeOf, cellFrom, recipeFrom, runBytes, runFrom}
 use Rattle.capi.specs.Answer.{Answered, moveCode, Reported, PlanAnswered}
-use Rattle.capi.specs.Lists.{Found, numbered, held, foundOf, ByteCalls, no-call, ask-then, report-then, BytePromises}
+use Rattle.capi.specs.Lists.{Found, numbered, held, foundOf, ByteCalls, no-call, ask-then, report-then, RecordCalls, record-none, record-asks, record-reports, ListPromises, BytePromises, RecordListPromises}
 use Rattle.capi.proofs.Decoding.{Whole, run-length, run-back}
 
 -- what an entry makes of six states and eight places are six and eight again
@@ -104,21 +104,50 @@ found-answers cell recipe table bytes calls found long (report-then {exit = exit
     found-answers cell recipe table exit after later (still-long report bytes exit answer long told) chain ∙ ap (λ (run : Run). map foundOf (runAnswers c r table run after)) same in
     λ i. held (told .answer-is i) (same i) ∷ rest i
 
--- demand 3, from bytes that hold a run at a position with an entry other than 0, also when 15 is given
-pub bytes-keep :
-    (cell recipe before table bytes : List ℕ) (refused : Bool)
-    → Planned (cellFrom cell) (recipeFrom recipe) before table refused
-    → 15 ≤ length bytes
-    → Position (cellFrom cell) (recipeFrom recipe) (runFrom bytes .point) (runFrom bytes .configuration)
-    → (entryOf (cellFrom cell) (recipeFrom recipe) table (runFrom bytes .point) (runFrom bytes .configuration) ≡ 0 → ⊥)
-    → (calls : List Call)
-    → BytePromises cell recipe table bytes calls
-bytes-keep cell recipe before table bytes refused planned long position alive calls =
-    let kept = planned .promises (runFrom bytes .point) (runFrom bytes .configuration) position alive calls in
-    record {
-      same-answers = λ found chain. found-answers cell recipe table bytes calls found long chain ∙ ap (map foundOf) (kept .same-answers);
-      keeps = kept .keeps;
-    }
+-- and so do calls on a record of six states and eight places
+recorded-answers :
+    (cell recipe table : List ℕ) (before : Run) (calls : List Call) (found : List Found)
+    → Whole (before .configuration)
+    → RecordCalls cell recipe table before calls found
+    → found ≡ map foundOf (runAnswers (cellFrom cell) (recipeFrom recipe) table before calls)
+unfolding runAnswers runAnswer runAfter foundOf moveCode
+recorded-answers cell recipe table before calls found whole record-none = refl
+recorded-answers cell recipe table before calls found whole (record-asks {calls = after} {later = later} is chain) =
+    let bytes-are : runFrom (runBytes before) ≡ before = ap runFrom (sym (append-nil (runBytes before))) ∙ run-back before [] whole in
+    λ i. numbered ((is ∙ ap (λ (run : Run). moveCode (nextMove (cellFrom cell) (recipeFrom recipe) table run)) bytes-are) i) ∷ recorded-answers cell recipe table before after later whole chain i
+recorded-answers cell recipe table before calls found whole (record-reports {after = kept} {outcome = outcome} {calls = after} {later = later} told chain) =
+    let c = cellFrom cell in
+    let r = recipeFrom recipe in
+    let same : kept ≡ reportOf c r table before outcome .run = told .stored .kept in
+    let still : Whole (kept .configuration) = subst (λ (run : Run). Whole (run .configuration)) (sym same) (report-whole c r table before outcome whole) in
+    let rest : later ≡ map foundOf (runAnswers c r table (reportOf c r table before outcome .run) after) =
+    recorded-answers cell recipe table kept after later still chain ∙ ap (λ (run : Run). map foundOf (runAnswers c r table run after)) same in
+    λ i. held ((told .answer-is ∙ ap refusalIn (told .stored .told)) i) (same i) ∷ rest i
+
+-- demand 3, from a run at a position with an entry other than 0, also when 15 is given: by calls on bytes that hold the run, and
+-- by calls on it as a record
+module _
+    (cell recipe before table : List ℕ) (refused : Bool) (planned : Planned (cellFrom cell) (recipeFrom recipe) before table refused) (run : Run)
+    (position : Position (cellFrom cell) (recipeFrom recipe) (run .point) (run .configuration))
+    (some : entryOf (cellFrom cell) (recipeFrom recipe) table (run .point) (run .configuration) ≡ 0 → ⊥)
+    (calls : List Call)
+  where
+    list-keeps :
+        (Finds : List Found → Type 0)
+        → ((found : List Found) → Finds found → found ≡ map foundOf (runAnswers (cellFrom cell) (recipeFrom recipe) table run calls))
+        → ListPromises (cellFrom cell) (recipeFrom recipe) table run calls Finds
+    list-keeps Finds by-value =
+        let kept = planned .promises (run .point) (run .configuration) position some calls in
+        record { same-answers = λ found finds. by-value found finds ∙ ap (map foundOf) (kept .same-answers); keeps = kept .keeps }
+
+    pub bytes-keep : (bytes : List ℕ) → 15 ≤ length bytes → runFrom bytes ≡ run → BytePromises cell recipe table bytes calls
+    bytes-keep bytes long holds-run =
+        subst (λ (x : Run). ListPromises (cellFrom cell) (recipeFrom recipe) table x calls (ByteCalls cell recipe table bytes calls)) (sym holds-run)
+        (list-keeps (ByteCalls cell recipe table bytes calls) (λ found finds. found-answers cell recipe table bytes calls found long finds ∙ ap (λ (x : Run). map foundOf (runAnswers (cellFrom cell) (recipeFrom recipe) table x calls)) holds-run))
+
+    pub records-keep : RecordListPromises cell recipe table run calls
+    records-keep =
+        list-keeps (RecordCalls cell recipe table run calls) (λ found finds. recorded-answers cell recipe table run calls found (record { six = position .six; eight = position .eight }) finds)
 
 -- no refusal has the number 0
 number-some : (refusal : Refusal) → 1 ≤ numberOf refusal
@@ -208,11 +237,9 @@ pub fresh-keeps :
     → (calls : List Call)
     → BytePromises cell recipe table′ bytes calls
 unfolding freshRun
-fresh-keeps cell recipe table scratch table′ scratch′ entry bytes plan fresh =
+fresh-keeps cell recipe table scratch table′ scratch′ entry bytes plan fresh calls =
     let c = cellFrom cell in
     let r = recipeFrom recipe in
-    let same : freshRun ≡ runFrom bytes = sym (holds-fresh entry bytes fresh) in
     let left = filled c r table scratch table′ scratch′ plan in
-    bytes-keep cell recipe table table′ bytes (left .refused) (left .planned) (fresh-long entry bytes fresh)
-    (subst (λ (run : Run). Position c r (run .point) (run .configuration)) same (begins c r table scratch table′ scratch′ plan))
-    (subst (λ (run : Run). entryOf c r table′ (run .point) (run .configuration) ≡ 0 → ⊥) same (alive c r table scratch table′ scratch′ plan))
+    bytes-keep cell recipe table table′ (left .refused) (left .planned) freshRun (begins c r table scratch table′ scratch′ plan) (alive c r table scratch table′ scratch′ plan) calls
+    bytes (fresh-long entry bytes fresh) (holds-fresh entry bytes fresh)

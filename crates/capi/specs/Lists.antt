@@ -3,12 +3,14 @@
 use mathlib.Core.Path.{_≡_}
 use mathlib.Core.List.{List, [], _∷_, map}
 use Prim.Native.Nat.{ℕ, _+_, _*_, _^_}
+use Rattle.cell.specs.declared.Cell.{Cell}
+use Rattle.recipe.specs.declared.Recipe.{Recipe}
 use Rattle.run.specs.declared.Run.{Run}
 use Rattle.run.specs.Calls.{nextMove, reportOf}
 use Rattle.run.specs.Book.{Call, asks, reports, Answer, moved, reported, opened, byTable, moments, answers}
 use Rattle.run.specs.Promises.{Keeps}
-use Rattle.capi.specs.Encoding.{cellFrom, recipeFrom, runFrom}
-use Rattle.capi.specs.Answer.{moveCode, Reported}
+use Rattle.capi.specs.Encoding.{cellFrom, recipeFrom, runBytes, runFrom}
+use Rattle.capi.specs.Answer.{moveCode, Reported, Recorded}
 
 -- what a caller has after a call: a next-move call's number; a report's number, and the run that the bytes then hold
 pub data Found : Type 0 where
@@ -33,13 +35,32 @@ pub data ByteCalls (cell recipe table : List ℕ) : List ℕ → List Call → L
       → ByteCalls cell recipe table exit calls later
       → ByteCalls cell recipe table entry (reports outcome ∷ calls) (held answer (runFrom exit) ∷ later)
 
--- demand 3 for a list of calls on bytes that hold a run, whatever the calls find within their contracts
-pub record BytePromises (cell recipe table bytes : List ℕ) (calls : List Call) : Type 0 where
+-- "The same holds of lists whose reports all have the second form, the run being the line screen's record": a next-move call is
+-- lent the record's bytes
+pub data RecordCalls (cell recipe table : List ℕ) : Run → List Call → List Found → Type 0 where
+  record-none : {before : Run} → RecordCalls cell recipe table before [] []
+  record-asks : {before : Run} {number : ℕ} {calls : List Call} {later : List Found}
+      → number ≡ moveCode (nextMove (cellFrom cell) (recipeFrom recipe) table (runFrom (runBytes before)))
+      → RecordCalls cell recipe table before calls later
+      → RecordCalls cell recipe table before (asks ∷ calls) (numbered number ∷ later)
+  record-reports : {before after : Run} {outcome answer : ℕ} {calls : List Call} {later : List Found}
+      → Recorded (cellFrom cell) (recipeFrom recipe) table before outcome after answer
+      → RecordCalls cell recipe table after calls later
+      → RecordCalls cell recipe table before (reports outcome ∷ calls) (held answer after ∷ later)
+
+-- demand 3 for a list of calls from a run, whatever may be found
+pub record ListPromises (c : Cell) (r : Recipe) (table : List ℕ) (run : Run) (calls : List Call) (Finds : List Found → Type 0) : Type 0 where
   pub same-answers :
       (found : List Found)
-      → ByteCalls cell recipe table bytes calls found
-      → found
-      ≡ map foundOf (answers (cellFrom cell) (recipeFrom recipe) (moments (cellFrom cell) (recipeFrom recipe) (byTable (cellFrom cell) (recipeFrom recipe) table) [] (opened (runFrom bytes .point) (runFrom bytes .configuration)) calls))
-  pub keeps :
-      Keeps (cellFrom cell) (recipeFrom recipe) (runFrom bytes .point)
-      (moments (cellFrom cell) (recipeFrom recipe) (byTable (cellFrom cell) (recipeFrom recipe) table) [] (opened (runFrom bytes .point) (runFrom bytes .configuration)) calls)
+      → Finds found
+      → found ≡ map foundOf (answers c r (moments c r (byTable c r table) [] (opened (run .point) (run .configuration)) calls))
+  pub keeps : Keeps c r (run .point) (moments c r (byTable c r table) [] (opened (run .point) (run .configuration)) calls)
+
+-- by calls on bytes that hold a run, and by calls on a record, within their contracts
+abbrev pub BytePromises : List ℕ → List ℕ → List ℕ → List ℕ → List Call → Type 0
+BytePromises cell recipe table bytes calls =
+    ListPromises (cellFrom cell) (recipeFrom recipe) table (runFrom bytes) calls (ByteCalls cell recipe table bytes calls)
+
+abbrev pub RecordListPromises : List ℕ → List ℕ → List ℕ → Run → List Call → Type 0
+RecordListPromises cell recipe table run calls =
+    ListPromises (cellFrom cell) (recipeFrom recipe) table run calls (RecordCalls cell recipe table run calls)
