@@ -4,9 +4,9 @@
  *
  * A slice of bytes is passed as a pointer and a length in bytes, a table as a pointer and its number of
  * entries (elements, not bytes). No pointer may be NULL, also where the length is 0. What a call may
- * write (a reader's record, the planner's table and scratch, the run of fresh and of report) must not
- * overlap anything else that it is handed. No call keeps a pointer, and calls from several threads need
- * no lock as long as none writes what another one uses.
+ * write (a reader's record, the planner's table and scratch, the run of fresh, of report and of
+ * report_record) must not overlap anything else that it is handed. No call keeps a pointer, and calls
+ * from several threads need no lock as long as none writes what another one uses.
  *
  * A cell record has CELLPLAN_CELL_BYTES bytes: byte 0 is the line count, then follow 64 times
  *     resource, from, act, arg, to.

@@ -168,7 +168,13 @@ pub extern "C" fn cellplan_report_record(
 ) -> u32
     ensures { λ r. ⌜ Recorded (cellFrom (now (cell .entry))) (recipeFrom (now (recipe .entry))) (now (table .entry)) (now (run .entry)) outcome (now (run .exit)) r ⌝ }
 {
-    let verdict = run::report_record(run, get::get_cell(cell), get::get_recipe(recipe), table, outcome);
+    let verdict = run::report_record(
+        run,
+        get::get_cell(cell),
+        get::get_recipe(recipe),
+        table,
+        outcome,
+    );
     refusal_number(verdict) as u32
 }
 
