@@ -38,7 +38,7 @@ use Rattle.simulation.specs.Simulation.{Position}
 use Rattle.simulation.specs.Plan.{entryOf, Planned}
 use Rattle.simulation.proofs.Planning.{starts}
 use Rattle.planner.specs.Call.{checkPlan, Filled}
-use Rattle.capi.specs.Encoding.{codeOf, cellFrom, recipeFrom, runBytes, runFrom}
+use Rattle.capi.specs.Encoding.{cellFrom, recipeFrom, runBytes, runFrom}
 use Rattle.capi.specs.Answer.{Answered, moveCode, Reported, PlanAnswered}
 use Rattle.capi.specs.Lists.{Found, numbered, held, foundOf, ByteCalls, no-call, ask-then, report-then, RecordCalls, record-none, record-asks, record-reports, ListPromises, BytePromises, RecordListPromises}
 use Rattle.capi.proofs.Decoding.{Whole, run-length, run-back}
@@ -243,3 +243,16 @@ fresh-keeps cell recipe table scratch table′ scratch′ entry bytes plan fresh
     let left = filled c r table scratch table′ scratch′ plan in
     bytes-keep cell recipe table table′ (left .refused) (left .planned) freshRun (begins c r table scratch table′ scratch′ plan) (alive c r table scratch table′ scratch′ plan) calls
     bytes (fresh-long entry bytes fresh) (holds-fresh entry bytes fresh)
+
+-- and from a record that is a fresh run
+pub fresh-record-keeps :
+    (cell recipe table scratch table′ scratch′ : List ℕ)
+    → PlanAnswered (cellFrom cell) (recipeFrom recipe) table scratch table′ scratch′ 0
+    → (calls : List Call)
+    → RecordListPromises cell recipe table′ freshRun calls
+unfolding freshRun
+fresh-record-keeps cell recipe table scratch table′ scratch′ plan calls =
+    let c = cellFrom cell in
+    let r = recipeFrom recipe in
+    let left = filled c r table scratch table′ scratch′ plan in
+    records-keep cell recipe table table′ (left .refused) (left .planned) freshRun (begins c r table scratch table′ scratch′ plan) (alive c r table scratch table′ scratch′ plan) calls

@@ -29,7 +29,8 @@ pub data Chain (c : Cell) (r : Recipe) (table : List ℕ) : Run → List Call �
       → Chain c r table after calls later
       → Chain c r table before (reports outcome ∷ calls) (reported (refusalIn verdict) (after .point) (after .configuration) ∷ later)
 
--- demand 3 for a list of calls on a record, whatever they answer within their contracts
+-- "The same holds of lists whose reports all have the second form": demand 3 for a list of calls on a record, whatever they
+-- answer within their contracts
 pub record RecordPromises (c : Cell) (r : Recipe) (table : List ℕ) (p : ℕ) (a : Configuration) (calls : List Call) : Type 0 where
   pub same-answers :
       (told : List Answer)
