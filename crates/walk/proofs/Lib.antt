@@ -1,7 +1,9 @@
 -- Text put piece after piece (Pieces), the numbers of positions (Located), the answers to a byte (Answers), input that
--- comes in parts (Parts), and printed numbers read back (ReadBack).
+-- comes in parts (Parts), reads of it (Chunks), the files and the plan (Decided), and printed numbers read back (ReadBack).
 mod Pieces
 mod Located
 mod Answers
 mod Parts
+mod Chunks
+mod Decided
 mod ReadBack

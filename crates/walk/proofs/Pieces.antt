@@ -9,7 +9,7 @@ use lib.ListN.{length, take, set, getD, length-set, length-append}
 use lib.Seq.{length-take-le, take-all, take-suc, take-suc-set}
 use lib.Dec.{ltb}
 use borrow.Author.Tests.{lt-ltb, le-ltb}
-use Rattle.walk.specs.Text.{lastDigit, digitsOf, field, Put}
+use Rattle.walk.specs.Text.{lastDigit, digitsOf, field, moveLine, refusalLine, Put}
 
 -- nothing is put
 pub put-nothing : (text : List ℕ) (at : ℕ) → at ≤ length text → Put text text at [] at
@@ -77,6 +77,23 @@ put-all bytes i past p = put-same (take-all i bytes past) p
 pub field-few : (n last : ℕ) → length (field n last) ≤ 21
 unfolding field
 field-few n last = omega (arith, digits-few 20 n, length-append (digitsOf 20 n) (last ∷ []))
+
+-- so that a line has at most 64 bytes
+pub move-few : (position entry next : ℕ) → length (moveLine position entry next) ≤ 64
+unfolding moveLine
+move-few position entry next =
+    omega (
+      arith,
+      length-append (field position 44 ++ field entry 44) (field next 10),
+      length-append (field position 44) (field entry 44),
+      field-few position 44,
+      field-few entry 44,
+      field-few next 10,
+    )
+
+pub refusal-few : (number : ℕ) → length (refusalLine number) ≤ 64
+unfolding refusalLine
+refusal-few number = simp length-append (omega (arith, field-few number 10))
 
 -- as many bytes as the text that was put
 pub put-counts : {entry exit : List ℕ} {bytes : List ℕ} {end : ℕ} → Put entry exit 0 bytes end → end ≡ length (take end exit)

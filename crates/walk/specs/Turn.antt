@@ -17,8 +17,7 @@ use Rattle.positions.specs.Rules.{checkRecords, rule16}
 use Rattle.run.specs.declared.Run.{Run}
 use Rattle.run.specs.Calls.{nextMove, reportOf}
 use Rattle.walk.specs.declared.Answer.{Answer}
-use Rattle.walk.specs.declared.Walk.{Walk}
-use Rattle.walk.specs.Text.{moveLine, refusalLine}
+use Rattle.walk.specs.Text.{moveLine, refusalLine, Put}
 
 -- a number where a verdict accepts
 unfoldable pub numbered : Verdict → ℕ → ℕ
@@ -50,17 +49,16 @@ told c r table run byte =
     (reported c r (nextMove c r table run .entry) run (reportOf c r table run (byte - 48) .verdict) (reportOf c r table run (byte - 48) .run))
     (record { line = []; more = false; run = run })
 
--- the answer to a byte: the line stands at the start of the lent buffer
-pub record Answered (t : Told) (exit : List ℕ) (answer : Answer) : Type 0 where
-  pub inside : answer .length ≤ length exit
-  pub line-is : take (answer .length) exit ≡ t .line
+-- the answer to a byte: the line is put into the lent buffer behind its first `at` bytes
+pub record Answered (t : Told) (entry exit : List ℕ) (at : ℕ) (answer : Answer) : Type 0 where
+  pub line-is : Put entry exit at (t .line) (answer .length)
   pub more-is : answer .more ≡ t .more
   pub run-is : answer .run ≡ t .run
 
--- a walk that goes on only as the answer to a byte says
-pub record Taken (t : Told) (walk : Walk) : Type 0 where
-  pub goes-on : walk .more ≡ true → t .more ≡ true
-  pub run-is : walk .run ≡ t .run
+-- whether a walk goes on, and the run that it has come to
+pub record Walk : Type 0 where
+  pub more : Bool
+  pub run : Run
 
 -- the walk after some bytes
 unfoldable pub walked : Cell → Recipe → List ℕ → Run → List ℕ → Walk
@@ -75,3 +73,10 @@ printed c r table run [] = []
 printed c r table run (byte ∷ bytes) =
     told c r table run byte .line
     ++ cond (told c r table run byte .more) (printed c r table (told c r table run byte .run) bytes) []
+
+-- the answer to some bytes: their lines stand at the lent buffer's start, and the walk goes on exactly if they say so
+pub record Answers (c : Cell) (r : Recipe) (table : List ℕ) (run : Run) (bytes exit : List ℕ) (answer : Answer) : Type 0 where
+  pub inside : answer .length ≤ length exit
+  pub lines-are : take (answer .length) exit ≡ printed c r table run bytes
+  pub more-is : answer .more ≡ walked c r table run bytes .more
+  pub run-is : answer .run ≡ walked c r table run bytes .run

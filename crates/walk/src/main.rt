@@ -4,9 +4,11 @@ mod text;
 mod turn;
 
 ghost use mathlib.Core.Path.{_≡_};
-ghost use mathlib.Core.Bool.{true};
+ghost use Prim.Native.Nat.{_*_, _≤_};
+ghost use lib.ListN.{length, take};
+ghost use Rattle.refusals.specs.Verdict.{before};
 ghost use Rattle.io.specs.Counts.{Counts};
-ghost use Rattle.walk.specs.Turn.{told, Taken, walked};
+ghost use Rattle.walk.specs.Output.{CellRead, RecipeRead, Prepared, Stepped, Followed};
 use cell::Cell;
 use cell::CellReading;
 use libc::STDIN_FILENO;
@@ -16,7 +18,7 @@ use recipe::RecipeReading;
 use refusals::Verdict;
 use run::Run;
 
-// What a byte of standard input is answered with: how many bytes of text, whether the walk goes on,
+// What bytes of standard input are answered with: how many bytes of text, whether the walk goes on,
 // and the run afterwards.
 pub struct Answer {
     pub length: usize,
@@ -24,8 +26,20 @@ pub struct Answer {
     pub run: Run,
 }
 
-// Whether the walk goes on, and the run that it has come to.
-pub struct Walk {
+// What the files and the plan come to.
+pub struct Ready {
+    pub verdict: Verdict,
+    pub cell: Cell,
+    pub recipe: Recipe,
+}
+
+// What one read of standard input comes to: how many bytes it gave, how many bytes of text were
+// handed over for them, whether writing these failed, whether the walk goes on, and the run
+// afterwards.
+pub struct Step {
+    pub got: usize,
+    pub length: usize,
+    pub failed: bool,
     pub more: bool,
     pub run: Run,
 }
@@ -45,7 +59,7 @@ fn print_refusal(verdict: Verdict) {
         return;
     };
     let mut line = [0u8; 64];
-    let length = text::put_refusal(&mut line, refusals::number(refusal));
+    let length = text::put_refusal(&mut line, 0, refusals::number(refusal));
     print(&line[..length]);
 }
 
@@ -64,108 +78,144 @@ fn read_start(path: &[u8], start: &mut [u8]) -> usize
 }
 
 // The cell of the working directory.
-fn read_cell() -> CellReading {
+fn read_cell() -> CellReading
+    ensures { λ r. ⌜ CellRead r ⌝ }
+{
     let mut start = [0u8; 8192];
     let length = read_start(b"cell.csv", &mut start);
     cell::read_cell(&start[..length])
 }
 
-// The recipe of the working directory.
-fn read_recipe() -> RecipeReading {
+// The recipe of the working directory, which is not read if the cell is refused: then it counts as
+// empty.
+fn read_recipe(cell: Verdict) -> RecipeReading
+    ensures { λ r. ⌜ RecipeRead r ⌝ }
+{
+    let Verdict::Accepted = cell else {
+        return recipe::read_recipe(b"");
+    };
     let mut start = [0u8; 8192];
     let length = read_start(b"recipe.csv", &mut start);
     recipe::read_recipe(&start[..length])
 }
 
-// Answers a byte and prints the answer. A line that cannot be written ends the walk.
-fn take_byte(cell: Cell, recipe: Recipe, table: &[u32], run: Run, byte: u8) -> Walk
-    ensures { λ r. ⌜ Taken (told cell recipe (now (table .entry)) run byte) r ⌝ }
+// The first of two verdicts that refuses.
+fn first_refusal(first: Verdict, second: Verdict) -> Verdict
+    ensures { λ r. ⌜ r ≡ before first second ⌝ }
 {
-    let mut line = [0u8; 64];
-    let answer = turn::answer(cell, recipe, table, run, byte, &mut line);
+    let Verdict::Accepted = first else {
+        return first;
+    };
+    second
+}
+
+// Reads the cell and the recipe, and plans with 8192 places.
+fn prepare(table: &mut [u32]) -> Ready
+    requires { ⌜ length (now table) ≡ 8192 ⌝ }
+    ensures { λ r. ⌜ Prepared (now (table .exit)) r ⌝ }
+{
+    let reading = read_cell();
+    let first = reading.verdict;
+    let cell = reading.cell;
+    let reading = read_recipe(first);
+    let second = reading.verdict;
+    let recipe = reading.recipe;
+    let verdict = first_refusal(first, second);
+    let Verdict::Accepted = verdict else {
+        return Ready {
+            verdict,
+            cell,
+            recipe,
+        };
+    };
+    let mut scratch = [0u8; 8192];
+    let verdict = planner::plan(cell, recipe, table, &mut scratch);
+    Ready {
+        verdict,
+        cell,
+        recipe,
+    }
+}
+
+// Takes what one read gives and prints its answer, before more is waited for. A text that cannot be
+// written ends the walk, as does the end of the input.
+fn take_some(
+    cell: Cell,
+    recipe: Recipe,
+    table: &[u32],
+    run: Run,
+    bytes: &mut [u8],
+    text: &mut [u8],
+) -> Step
+    requires { ⌜ 64 * length (now bytes) ≤ length (now text) ⌝ }
+    ensures { λ r. ⌜ Stepped cell recipe (now (table .entry)) run (now (bytes .exit)) (now (text .exit)) r ⌝ }
+{
+    let read = libc::read(STDIN_FILENO, bytes);
+    let got = io::count(read, bytes);
+    if got == 0 {
+        return Step {
+            got,
+            length: 0,
+            failed: false,
+            more: false,
+            run,
+        };
+    }
+    let answer = turn::answers(cell, recipe, table, run, &bytes[..got], text);
     let length = answer.length;
     let next = answer.run;
-    let is_printed = print(&line[..length]);
-    if !is_printed {
-        return Walk {
+    let is_written = print(&text[..length]);
+    if !is_written {
+        return Step {
+            got,
+            length,
+            failed: true,
             more: false,
             run: next,
         };
     }
-    Walk {
+    Step {
+        got,
+        length,
+        failed: false,
         more: answer.more,
         run: next,
     }
 }
 
-// Answers bytes until one ends the walk.
-fn take_bytes(cell: Cell, recipe: Recipe, table: &[u32], run: Run, bytes: &[u8]) -> Walk
-    ensures { λ r. ⌜ (r .more ≡ true → walked cell recipe (now (table .entry)) run (now (bytes .entry)) ≡ r) ⌝ }
-{
-    let mut walk = Walk { more: true, run };
-    let mut i = 0;
-    while i < bytes.len() {
-        walk = take_byte(cell, recipe, table, walk.run, bytes[i]);
-        if !walk.more {
-            return walk;
-        }
-        i += 1;
-    }
-    walk
-}
-
-// Takes what one read gives, so that an answer comes before more is waited for.
-fn take_some(cell: Cell, recipe: Recipe, table: &[u32], run: Run) -> Walk {
-    let mut bytes = io::buffer();
-    let got = libc::read(STDIN_FILENO, &mut bytes);
-    if got <= 0 {
-        return Walk { more: false, run };
-    }
-    let length = io::count(got, &bytes);
-    take_bytes(cell, recipe, table, run, &bytes[..length])
-}
-
 // Follows a table from a fresh run. A proved loop has to end, and nothing says that standard input
-// does; so the reads are counted down, from a number that no walk uses up.
-fn follow(cell: Cell, recipe: Recipe, table: &[u32]) {
-    let mut walk = Walk {
+// does; so the reads are counted down.
+fn follow(cell: Cell, recipe: Recipe, table: &[u32], reads: u64) -> Step
+    ensures { λ r. ⌜ Followed cell recipe (now (table .entry)) reads r ⌝ }
+{
+    let mut bytes = [0u8; 1024];
+    let mut text = io::large_buffer();
+    let mut step = Step {
+        got: 0,
+        length: 0,
+        failed: false,
         more: true,
         run: Run::fresh(),
     };
-    let mut reads = u64::MAX;
-    while reads > 0 && walk.more {
-        walk = take_some(cell, recipe, table, walk.run);
-        reads -= 1;
+    let mut left = reads;
+    while left > 0 && step.more {
+        step = take_some(cell, recipe, table, step.run, &mut bytes, &mut text);
+        left -= 1;
     }
-}
-
-// Plans with 8192 places, and follows the plan.
-fn plan_and_follow(cell: Cell, recipe: Recipe) {
-    let mut table = [0u32; 8192];
-    let mut scratch = [0u8; 8192];
-    let verdict = planner::plan(cell, recipe, &mut table, &mut scratch);
-    let Verdict::Accepted = verdict else {
-        print_refusal(verdict);
-        return;
-    };
-    follow(cell, recipe, &table);
+    step
 }
 
 fn main() {
     if !print(b"position,entry,next\n") {
         return;
     }
-    let cell = read_cell();
-    let verdict = cell.verdict;
+    let mut table = [0u32; 8192];
+    let ready = prepare(&mut table);
+    let verdict = ready.verdict;
     let Verdict::Accepted = verdict else {
         print_refusal(verdict);
         return;
     };
-    let recipe = read_recipe();
-    let verdict = recipe.verdict;
-    let Verdict::Accepted = verdict else {
-        print_refusal(verdict);
-        return;
-    };
-    plan_and_follow(cell.cell, recipe.recipe);
+    // No walk uses up so many reads.
+    follow(ready.cell, ready.recipe, &table, u64::MAX);
 }

@@ -59,21 +59,21 @@ fn put_field(text: &mut [u8], at: usize, n: u64, last: u8) -> usize
     put_byte(text, end, last)
 }
 
-// Puts the line of a move at the buffer's start.
-pub fn put_move(text: &mut [u8], position: u64, entry: u64, next: u64) -> usize
-    requires { ⌜ 64 ≤ length (now text) ⌝ }
-    ensures { λ r. ⌜ Put (now (text .entry)) (now (text .exit)) 0 (moveLine position entry next) r ⌝ }
+// Puts the line of a move.
+pub fn put_move(text: &mut [u8], at: usize, position: u64, entry: u64, next: u64) -> usize
+    requires { ⌜ at + 64 ≤ length (now text) ⌝ }
+    ensures { λ r. ⌜ Put (now (text .entry)) (now (text .exit)) at (moveLine position entry next) r ⌝ }
 {
-    let first = put_field(text, 0, position, b',');
+    let first = put_field(text, at, position, b',');
     let second = put_field(text, first, entry, b',');
     put_field(text, second, next, b'\n')
 }
 
-// Puts the line of a refusal at the buffer's start.
-pub fn put_refusal(text: &mut [u8], number: u8) -> usize
-    requires { ⌜ 64 ≤ length (now text) ⌝ }
-    ensures { λ r. ⌜ Put (now (text .entry)) (now (text .exit)) 0 (refusalLine number) r ⌝ }
+// Puts the line of a refusal.
+pub fn put_refusal(text: &mut [u8], at: usize, number: u8) -> usize
+    requires { ⌜ at + 64 ≤ length (now text) ⌝ }
+    ensures { λ r. ⌜ Put (now (text .entry)) (now (text .exit)) at (refusalLine number) r ⌝ }
 {
-    let word = put_bytes(text, 0, b"refused,");
+    let word = put_bytes(text, at, b"refused,");
     put_field(text, word, number as u64, b'\n')
 }

@@ -1,3 +1,4 @@
+use native.Mathlib.Omega.{arith}
 use mathlib.Core.Path.{ap}
 use Rattle.run.specs.declared.Move.{Move}
 use Rattle.walk.proofs.Answers.{byte-below, byte-above, report-made, report-refused}
@@ -8,12 +9,12 @@ use Rattle.walk.proofs.turn.answer.Tie as tie
 returns : tie.Need-returns
 returns c =
     let s = c .before .before .before .args in
-    byte-below (s .cell) (s .recipe) (s .table .now) (s .run) (s .byte) (s .text .now) (c .if1 .taken)
+    byte-below (s .cell) (s .recipe) (s .table .now) (s .run) (s .byte) (s .text .now) (s .at) (omega (arith, c .before .before .before .pre)) (c .if1 .taken)
 
 returns-2 : tie.Need-returns-2
 returns-2 c =
     let s = c .before .before .before .before .args in
-    byte-above (s .cell) (s .recipe) (s .table .now) (s .run) (s .byte) (s .text .now) (c .before .if1 .left) (c .if2 .taken)
+    byte-above (s .cell) (s .recipe) (s .table .now) (s .run) (s .byte) (s .text .now) (s .at) (omega (arith, c .before .before .before .before .pre)) (c .before .if1 .left) (c .if2 .taken)
 
 report-requires : tie.Need-report-requires
 report-requires c κs = search needs
