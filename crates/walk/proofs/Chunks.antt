@@ -41,32 +41,39 @@ module _ (c : Cell) (r : Recipe) (table : List ℕ) where
           failed-ends = λ failed. refl;
         })
 
-    module _ (got : ℕ) (inside : got ≤ length bytes) (answer : Answer) (answers : Answers c r table run (take got bytes) text answer) where
-      -- an answer that could not be written
-      pub step-failed : Stepped c r table run bytes text (record { got = got; length = answer .length; failed = true; more = false; run = answer .run })
-      step-failed =
-          record {
-            bytes-inside = inside;
-            text-inside = answers .inside;
-            text-is = answers .lines-are;
-            run-is = answers .run-is;
-            more-is = λ some (kept : true ≡ false). absurd (never kept refl);
-            ended = λ none. refl;
-            failed-ends = λ failed. refl;
-          }
+    module _
+        (got : ℕ) (inside : got ≤ length bytes) (answer : Answer) (answers : Answers c r table run (take got bytes) text answer)
+        (handed : ℕ) (whole : handed ≡ answer .length)
+      where
+        lines-handed : take handed text ≡ printed c r table run (take got bytes)
+        lines-handed = ap (λ (n : ℕ). take n text) whole ∙ answers .lines-are
 
-      -- and one that was
-      pub step-written : (got ≡ 0 → ⊥) → Stepped c r table run bytes text (record { got = got; length = answer .length; failed = false; more = answer .more; run = answer .run })
-      step-written some =
-          record {
-            bytes-inside = inside;
-            text-inside = answers .inside;
-            text-is = answers .lines-are;
-            run-is = answers .run-is;
-            more-is = λ here kept. answers .more-is;
-            ended = λ none. absurd (some none);
-            failed-ends = λ (failed : false ≡ true). absurd (never refl failed);
-          }
+        -- an answer that could not be written
+        pub step-failed : Stepped c r table run bytes text (record { got = got; length = handed; failed = true; more = false; run = answer .run })
+        step-failed =
+            record {
+              bytes-inside = inside;
+              text-inside = omega (arith, whole, answers .inside);
+              text-is = lines-handed;
+              run-is = answers .run-is;
+              more-is = λ some (kept : true ≡ false). absurd (never kept refl);
+              ended = λ none. refl;
+              failed-ends = λ failed. refl;
+            }
+
+        -- and one that was
+        pub step-written : (got ≡ 0 → ⊥) → (more : Bool) → more ≡ answer .more
+            → Stepped c r table run bytes text (record { got = got; length = handed; failed = false; more = more; run = answer .run })
+        step-written some more on =
+            record {
+              bytes-inside = inside;
+              text-inside = omega (arith, whole, answers .inside);
+              text-is = lines-handed;
+              run-is = answers .run-is;
+              more-is = λ here kept. on ∙ answers .more-is;
+              ended = λ none. absurd (some none);
+              failed-ends = λ (failed : false ≡ true). absurd (never refl failed);
+            }
 
   -- while reads are left
   pub record Following (reads left : ℕ) (step : Step) : Type 0 where

@@ -6,6 +6,7 @@ use native.Mathlib.Omega.{arith}
 use lib.ListN.{length, take, length-take}
 use lib.Seq.{take-all}
 use Rattle.refusals.specs.declared.Refusal.{Refusal}
+use Rattle.refusals.specs.Refusal.{numberOf}
 use Rattle.refusals.specs.declared.Verdict.{Verdict}
 use Rattle.refusals.specs.declared.Verdict.the-variants.{Accepted, Refused}
 use Rattle.refusals.specs.Verdict.{before}
@@ -15,7 +16,8 @@ use Rattle.recipe.specs.declared.RecipeReading.{RecipeReading}
 use Rattle.recipe.specs.Reader.{readRecipe}
 use Rattle.planner.specs.Call.{PlanCall}
 use Rattle.refusals.proofs.Verdicts.{first-accepts, next-accepts}
-use Rattle.walk.specs.Output.{CellRead, RecipeRead, PlanMade, Decided, Prepared}
+use Rattle.walk.specs.Text.{refusalLine, Put}
+use Rattle.walk.specs.Output.{below, CellRead, RecipeRead, PlanMade, Decided, Prepared}
 
 -- a buffer of 8192 bytes holds the start of a file
 in-start : (n : ℕ) (start : List ℕ) → length start ≡ 8192 → take 8192 (take n start) ≡ take n start
@@ -30,6 +32,19 @@ recipe-start n start long is = (take n start, is ∙ ap readRecipe (sym (in-star
 -- the recipe that is not read
 pub recipe-none : {reading : RecipeReading} → reading ≡ readRecipe [] → RecipeRead reading
 recipe-none is = ([], is)
+
+-- how many bytes are handed over below the first line
+pub none-handed : {verdict : Verdict} → verdict ≡ Accepted → 0 ≡ length (below verdict [])
+unfolding below
+none-handed is = rw is
+
+pub line-handed : {verdict : Verdict} {refusal : Refusal} {line number end handed : ℕ} {entry exit : List ℕ} → verdict ≡ Refused refusal line → number ≡ numberOf refusal
+    → Put entry exit 0 (refusalLine number) end
+    → handed ≡ length (take end exit)
+    → handed ≡ length (below verdict [])
+unfolding below
+line-handed is numbered put whole =
+    whole ∙ ap (λ (l : List ℕ). length l) (put .bytes-are ∙ ap refusalLine numbered) ∙ ap (λ (v : Verdict). length (below v [])) (sym is)
 
 -- a verdict that refuses leaves nothing to the next
 no-next : (v w x : Verdict) {refusal : Refusal} {line : ℕ} → before v w ≡ Refused refusal line → before v w ≡ before v (before w x)

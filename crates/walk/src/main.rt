@@ -4,11 +4,12 @@ mod text;
 mod turn;
 
 ghost use mathlib.Core.Path.{_≡_};
+ghost use mathlib.Core.List.{[]};
 ghost use Prim.Native.Nat.{_*_, _≤_};
-ghost use lib.ListN.{length, take};
+ghost use lib.ListN.{length};
 ghost use Rattle.refusals.specs.Verdict.{before};
 ghost use Rattle.io.specs.Counts.{Counts};
-ghost use Rattle.walk.specs.Output.{CellRead, RecipeRead, Prepared, Stepped, Followed};
+ghost use Rattle.walk.specs.Output.{below, CellRead, RecipeRead, Prepared, Stepped, Followed};
 use cell::Cell;
 use cell::CellReading;
 use libc::STDIN_FILENO;
@@ -24,6 +25,12 @@ pub struct Answer {
     pub length: usize,
     pub more: bool,
     pub run: Run,
+}
+
+// How many bytes were handed to standard output, and whether writing them failed.
+pub struct Printed {
+    pub length: usize,
+    pub failed: bool,
 }
 
 // What the files and the plan come to.
@@ -44,23 +51,33 @@ pub struct Step {
     pub run: Run,
 }
 
-// Writes to standard output; where that fails it says why, and answers false.
-fn print(text: &[u8]) -> bool {
+// Hands a text to standard output; where writing fails it says why.
+fn print(text: &[u8]) -> Printed
+    ensures { λ r. ⌜ r .length ≡ length (now (text .entry)) ⌝ }
+{
     let is_written = io::write_all(STDOUT_FILENO, text);
     if !is_written {
         os::fail(b"standard output");
     }
-    is_written
+    Printed {
+        length: text.len(),
+        failed: !is_written,
+    }
 }
 
 // Prints the line of a verdict that refuses.
-fn print_refusal(verdict: Verdict) {
+fn print_refusal(verdict: Verdict) -> Printed
+    ensures { λ r. ⌜ r .length ≡ length (below verdict []) ⌝ }
+{
     let Verdict::Refused(refusal, _) = verdict else {
-        return;
+        return Printed {
+            length: 0,
+            failed: false,
+        };
     };
     let mut line = [0u8; 64];
     let length = text::put_refusal(&mut line, 0, refusals::number(refusal));
-    print(&line[..length]);
+    print(&line[..length])
 }
 
 // Reads a file's start as far as the buffer has room, and answers how many bytes that are; 0 for a
@@ -164,11 +181,11 @@ fn take_some(
     let answer = turn::answers(cell, recipe, table, run, &bytes[..got], text);
     let length = answer.length;
     let next = answer.run;
-    let is_written = print(&text[..length]);
-    if !is_written {
+    let printed = print(&text[..length]);
+    if printed.failed {
         return Step {
             got,
-            length,
+            length: printed.length,
             failed: true,
             more: false,
             run: next,
@@ -176,7 +193,7 @@ fn take_some(
     }
     Step {
         got,
-        length,
+        length: printed.length,
         failed: false,
         more: answer.more,
         run: next,
@@ -206,7 +223,8 @@ fn follow(cell: Cell, recipe: Recipe, table: &[u32], reads: u64) -> Step
 }
 
 fn main() {
-    if !print(b"position,entry,next\n") {
+    let names = print(b"position,entry,next\n");
+    if names.failed {
         return;
     }
     let mut table = [0u32; 8192];
