@@ -14,7 +14,11 @@ use Rattle.walk.specs.declared.Answer.{Answer}
 use Rattle.walk.specs.declared.Step.{Step}
 use Rattle.walk.specs.Turn.{Walk, walked, printed, Answers}
 use Rattle.walk.specs.Output.{Stepped, Followed}
-use Rattle.walk.proofs.Parts.{walked-parts}
+use Rattle.walk.proofs.Parts.{walked-parts, printed-parts}
+
+-- a prefix has as many bytes as it was cut to
+pub prefix-counts : (n : ℕ) (text : List ℕ) → n ≤ length text → n ≡ length (take n text)
+prefix-counts n text inside = sym (length-take-le n text inside)
 
 -- a test has one answer
 pub never : {b : Bool} → b ≡ false → b ≡ true → ⊥
@@ -62,15 +66,14 @@ module _ (c : Cell) (r : Recipe) (table : List ℕ) where
             }
 
         -- and one that was
-        pub step-written : (got ≡ 0 → ⊥) → (more : Bool) → more ≡ answer .more
-            → Stepped c r table run bytes text (record { got = got; length = handed; failed = false; more = more; run = answer .run })
-        step-written some more on =
+        pub step-written : (got ≡ 0 → ⊥) → Stepped c r table run bytes text (record { got = got; length = handed; failed = false; more = answer .more; run = answer .run })
+        step-written some =
             record {
               bytes-inside = inside;
               text-inside = omega (arith, whole, answers .inside);
               text-is = lines-handed;
               run-is = answers .run-is;
-              more-is = λ here kept. on ∙ answers .more-is;
+              more-is = λ here kept. answers .more-is;
               ended = λ none. absurd (some none);
               failed-ends = λ (failed : false ≡ true). absurd (never refl failed);
             }
@@ -99,6 +102,13 @@ module _ (c : Cell) (r : Recipe) (table : List ℕ) where
 
     kept : after .more ≡ true → after .failed ≡ false
     kept more = not-true-false (after .failed) (λ failed. never (S .failed-ends failed) more)
+
+    -- what is handed over for a read is what the definition prints next
+    pub handed-next : printed c r table freshRun (F .input ++ take (after .got) bytes) ≡ printed c r table freshRun (F .input) ++ take (after .length) text
+    handed-next =
+        printed-parts c r table freshRun (F .input) (take (after .got) bytes)
+        ∙ (λ i. printed c r table freshRun (F .input) ++ cond (F .goes-on on i) (printed c r table (sym (F .run-is) i) (take (after .got) bytes)) [])
+        ∙ ap (λ (l : List ℕ). printed c r table freshRun (F .input) ++ l) (sym (S .text-is))
 
     pub following-next : Following reads (left - 1) after
     following-next =

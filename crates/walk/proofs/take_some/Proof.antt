@@ -1,6 +1,6 @@
-use mathlib.Core.Path.{refl, sym, _∙_}
+use mathlib.Core.Path.{_∙_}
 use lib.Seq.{length-take-le}
-use Rattle.walk.proofs.Chunks.{step-ended, step-failed, step-written}
+use Rattle.walk.proofs.Chunks.{prefix-counts, step-ended, step-failed, step-written}
 use borrow.Author.Needs.{needs}
 use Rattle.walk.proofs.take_some.Statement.{statement}
 use Rattle.walk.proofs.take_some.Tie as tie
@@ -49,7 +49,7 @@ slice-reshare-prefix-print c = search needs
 slice-aggregate-print : tie.Need-slice-aggregate-print
 slice-aggregate-print c =
     let answers = c .before .before .before .before .answers in
-    sym (length-take-le (answers .result .length) (answers .last .1 .1 .1 .1 .1 .0) (answers .ensures .inside))
+    prefix-counts _ (answers .last .1 .1 .1 .1 .1 .0) (answers .ensures .inside)
 
 -- src/main.rt:184:9
 print-requires : tie.Need-print-requires
@@ -87,7 +87,16 @@ returns-3 c =
     let count = c .before .before .before .before .before .before .before .before .before .before .count in
     let answers = c .before .before .before .before .before .before .answers in
     let whole = c .before .print .ensures ∙ length-take-le (answers .result .length) (answers .last .1 .1 .1 .1 .1 .0) (answers .ensures .inside) in
-    step-written (s .cell) (s .recipe) (s .table .now) (s .run) (c .before .before .before .before .before .before .before .before .before .before .before .before .before .before .read .last .1 .0) (answers .last .1 .1 .1 .1 .1 .0) (count .result) (count .ensures .0 .0) (answers .result) (answers .ensures) (c .before .print .result .length) whole (c .before .before .before .before .before .before .before .before .before .if1 .left) _ refl
+    let step = step-written (s .cell) (s .recipe) (s .table .now) (s .run) (c .before .before .before .before .before .before .before .before .before .before .before .before .before .before .read .last .1 .0) (answers .last .1 .1 .1 .1 .1 .0) (count .result) (count .ensures .0 .0) (answers .result) (answers .ensures) (c .before .print .result .length) whole (c .before .before .before .before .before .before .before .before .before .if1 .left) in
+    record {
+      bytes-inside = step .bytes-inside;
+      text-inside = step .text-inside;
+      text-is = step .text-is;
+      run-is = step .run-is;
+      more-is = step .more-is;
+      ended = step .ended;
+      failed-ends = step .failed-ends;
+    }
 
 pub take-some-spec : {M : Type 1} → statement M
 take-some-spec =

@@ -56,6 +56,7 @@ returns-3 c =
     let at-enum-told = at-next-move .before in
     let at-report = at-enum-told .before .before .before in
     let s = at-report .before .before .before .before .before .args in
+    let told =
     report-made
     (s .cell)
     (s .recipe)
@@ -71,7 +72,8 @@ returns-3 c =
     (at-position-of2 .before .position-of .ensures)
     (ap (λ (m : Move). m .entry) (at-next-move .next-move .ensures))
     (at-position-of2 .position-of2 .ensures)
-    (c .before .before .put-move .ensures)
+    (c .before .before .put-move .ensures) in
+    record { line-is = told .line-is; more-is = told .more-is; run-is = told .run-is }
 
 same-length-2 : tie.Need-same-length-2
 same-length-2 c = search needs
