@@ -1,5 +1,5 @@
 -- Reads of standard input, one after another. Assumes nothing.
-use mathlib.Core.Path.{_≡_, refl, sym, ap, subst, _∙_}
+use mathlib.Core.Path.{_≡_, refl, sym, ap, _∙_}
 use mathlib.Core.Bool.{Bool, true, false, cond}
 use mathlib.Core.List.{List, [], _++_}
 use Prim.Native.Nat.{ℕ, _+_, _-_, _<_, _≤_}
@@ -12,7 +12,7 @@ use Rattle.run.specs.declared.Run.{Run}
 use Rattle.run.specs.Calls.{freshRun}
 use Rattle.walk.specs.declared.Answer.{Answer}
 use Rattle.walk.specs.declared.Step.{Step}
-use Rattle.walk.specs.Turn.{Walk, walked, printed, Answers}
+use Rattle.walk.specs.Turn.{walked, printed, Answers}
 use Rattle.walk.specs.Output.{Stepped, Followed}
 use Rattle.walk.proofs.Parts.{walked-parts, printed-parts}
 

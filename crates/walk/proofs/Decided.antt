@@ -1,7 +1,7 @@
 -- What the files and the plan come to, by where it was refused. Assumes nothing.
 use mathlib.Core.Path.{_≡_, refl, sym, ap, subst, _∙_}
 use mathlib.Core.List.{List, []}
-use Prim.Native.Nat.{ℕ, _≤_}
+use Prim.Native.Nat.{ℕ}
 use native.Mathlib.Omega.{arith}
 use lib.ListN.{length, take, length-take}
 use lib.Seq.{take-all}
@@ -17,7 +17,7 @@ use Rattle.recipe.specs.Reader.{readRecipe}
 use Rattle.planner.specs.Call.{PlanCall}
 use Rattle.refusals.proofs.Verdicts.{first-accepts, next-accepts}
 use Rattle.walk.specs.Text.{refusalLine, Put}
-use Rattle.walk.specs.Output.{below, CellRead, RecipeRead, PlanMade, Decided, Prepared}
+use Rattle.walk.specs.Output.{below, CellRead, RecipeRead, Prepared}
 
 -- a buffer of 8192 bytes holds the start of a file
 in-start : (n : ℕ) (start : List ℕ) → length start ≡ 8192 → take 8192 (take n start) ≡ take n start

@@ -1,7 +1,7 @@
 -- ‡ "these four moves": what `walk` prints for the bench example and `0010`, whatever plan the planner has made.
 -- Assumes nothing.
 use mathlib.Core.Path.{_≡_, refl, sym, ap, subst, _∙_}
-use mathlib.Core.Bool.{Bool, true, false, cond, not}
+use mathlib.Core.Bool.{false, cond, not}
 use mathlib.Core.List.{List, [], _∷_, _++_}
 use Prim.Native.Nat.{ℕ, _-_, _≤_}
 use native.Mathlib.Omega.{arith}
@@ -37,7 +37,7 @@ use Rattle.worked.specs.Moves.{filled, benchCell, benchRecipe, benchEntry, benc
 use Rattle.worked.proofs.Table.{table}
 use Rattle.walk.specs.Text.{lastDigit, digitsOf, field, moveLine}
 use Rattle.walk.specs.Turn.{numbered, positionIn, Told, reported, told, printed}
-use Rattle.walk.specs.Output.{namesLine, below, PlanMade, Decided, Output}
+use Rattle.walk.specs.Output.{namesLine, below, Output}
 
 -- two tables have the same entries where the second one leads
 unfoldable pub Along : Cell → Recipe → List ℕ → List ℕ → Run → List ℕ → Type 0

@@ -11,7 +11,6 @@ use Rattle.cell.specs.declared.Cell.{Cell}
 use Rattle.recipe.specs.declared.Recipe.{Recipe}
 use Rattle.run.specs.declared.Run.{Run}
 use Rattle.walk.specs.declared.Answer.{Answer}
-use Rattle.walk.specs.Text.{Put}
 use Rattle.walk.specs.Turn.{Told, told, Answered, Walk, walked, printed, Answers}
 use Rattle.walk.proofs.Answers.{line-few}
 

@@ -1,7 +1,7 @@
 -- "`walk` reads the first 8192 bytes of `cell.csv` and then, unless that is refused, of `recipe.csv` .. and digits from
 -- standard input": what it reads, decides and prints. Assumes nothing.
 use mathlib.Core.Path.{_≡_}
-use mathlib.Core.Bool.{Bool, true, false}
+use mathlib.Core.Bool.{true, false}
 use mathlib.Core.List.{List, [], _∷_, _++_}
 use Prim.Native.Nat.{ℕ, _≤_}
 use lib.ListN.{length, take}

@@ -4,11 +4,6 @@ use native.Mathlib.Omega.{arith}
 use mathlib.Core.Path.{_≡_, refl, sym, _∙_}
 use Rattle.walk.proofs.follow.Statement.{statement}
 use Rattle.walk.proofs.follow.Tie as tie
-use Rattle.walk.proofs.follow.Reads as reads
-use Rattle.walk.proofs.follow.Lts as lts
-use Rattle.io.proofs.large_buffer.Reads as large-buffer-reads
-use Rattle.run.proofs.Run.fresh.Reads as fresh-reads
-use Rattle.walk.proofs.take_some.Reads as take-some-reads
 
 abbrev Inv-loop : tie.InvT-loop
 Inv-loop cell recipe table reads bytes₀ text₀ step₀ left₀ bytes text step left = Following cell recipe table reads left step × (length bytes ≡ 1024) × (length text ≡ 65536)
@@ -16,41 +11,32 @@ Inv-loop cell recipe table reads bytes₀ text₀ step₀ left₀ bytes text ste
 abbrev μ-loop : tie.MeasureT-loop
 μ-loop cell recipe table reads bytes₀ text₀ step₀ left₀ bytes text step left = left
 
--- src/main.rt:180:20
 large-buffer-requires : tie.Need-large-buffer-requires Inv-loop μ-loop
 large-buffer-requires c κs = tt
 
--- src/main.rt:186:14
 fresh-requires : tie.Need-fresh-requires Inv-loop μ-loop
 fresh-requires c κs = tt
 
--- src/main.rt:189:5
 loop-holds : tie.Need-loop-holds Inv-loop μ-loop
 loop-holds c =
     let s = c .before .before .before .args in
     (following-none (s .cell) (s .recipe) (s .table .now) (s .reads) (c .fresh .result) (c .fresh .ensures), refl, sym (c .before .large-buffer .ensures))
 
--- src/main.rt:190:57
 slice-aggregate-take-some : tie.Need-slice-aggregate-take-some Inv-loop μ-loop
 slice-aggregate-take-some c = sym (c .before .before .before .loop .inv .1)
 
--- src/main.rt:190:69
 slice-aggregate-take-some-2 : tie.Need-slice-aggregate-take-some-2 Inv-loop μ-loop
 slice-aggregate-take-some-2 c = sym (c .before .before .before .before .loop .inv .2)
 
--- src/main.rt:190:9
 take-some-requires : tie.Need-take-some-requires Inv-loop μ-loop
 take-some-requires c κs = omega (arith, c .before .before .before .before .loop .inv .1, c .before .before .before .before .loop .inv .2)
 
--- src/main.rt:191:9
 sub-left : tie.Need-sub-left Inv-loop μ-loop
 sub-left c = omega arith
 
--- src/main.rt:189:5
 loop-less : tie.Need-loop-less Inv-loop μ-loop
 loop-less c = omega arith
 
--- src/main.rt:189:5
 loop-again : tie.Need-loop-again Inv-loop μ-loop
 loop-again c =
     let s = c .before .before .before .before .before .before .before .before .before .before .before .args in
@@ -58,14 +44,12 @@ loop-again c =
     let took = c .before .before .take-some in
     (following-next (s .cell) (s .recipe) (s .table .now) (s .reads) (l .left) (omega arith) (l .step) (took .result) _ _ (l .inv .0) (c .before .before .before .before .before .if1 .taken) (took .ensures), took .kept .1 .1 .1 .1 .0 ∙ l .inv .1, took .kept .1 .1 .1 .1 .1 .0 ∙ l .inv .2)
 
--- src/main.rt:176:1
 returns : tie.Need-returns Inv-loop μ-loop
 returns c =
     let s = c .before .before .before .before .before .before .args in
     let l = c .before .before .loop in
     followed-over (s .cell) (s .recipe) (s .table .now) (s .reads) (l .left) (l .step) (l .inv .0) (c .if1 .left)
 
--- src/main.rt:176:1
 returns-2 : tie.Need-returns-2 Inv-loop μ-loop
 returns-2 c =
     let s = c .before .before .before .before .before .args in

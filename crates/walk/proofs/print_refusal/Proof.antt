@@ -3,49 +3,34 @@ use Rattle.walk.proofs.Decided.{none-handed, line-handed}
 use borrow.Author.Needs.{needs}
 use Rattle.walk.proofs.print_refusal.Statement.{statement}
 use Rattle.walk.proofs.print_refusal.Tie as tie
-use Rattle.walk.proofs.print_refusal.Reads as reads
-use Rattle.walk.proofs.print_refusal.Lts as lts
-use Rattle.refusals.proofs.number.Reads as number-reads
-use Rattle.walk.proofs.print.Reads as print-reads
-use Rattle.walk.proofs.text.put_refusal.Reads as put-refusal-reads
 
--- src/main.rt:72:26
 enum-known-verdict : tie.Need-enum-known-verdict
 enum-known-verdict c = search needs
 
--- src/main.rt:73:9
 enum-told : tie.Need-enum-told
 enum-told c = search needs
 
--- src/main.rt:73:9
 returns : tie.Need-returns
 returns c = none-handed (c .enum-told .given .1)
 
--- src/main.rt:79:36
 slice-aggregate-put-refusal : tie.Need-slice-aggregate-put-refusal
 slice-aggregate-put-refusal c = search needs
 
--- src/main.rt:79:50
 number-requires : tie.Need-number-requires
 number-requires c κs = search needs
 
--- src/main.rt:79:9
 put-refusal-requires : tie.Need-put-refusal-requires
 put-refusal-requires c κs = search needs
 
--- src/main.rt:80:11
 array-share-prefix-line : tie.Need-array-share-prefix-line
 array-share-prefix-line c = search needs
 
--- src/main.rt:80:11
 slice-aggregate-print : tie.Need-slice-aggregate-print
 slice-aggregate-print c = put-counts (c .before .before .put-refusal .ensures)
 
--- src/main.rt:80:5
 print-requires : tie.Need-print-requires
 print-requires c κs = search needs
 
--- src/main.rt:69:1
 returns-2 : tie.Need-returns-2
 returns-2 c = line-handed (c .before .before .before .before .before .before .before .verdict .given .1) (c .before .before .before .before .number .ensures) (c .before .before .before .put-refusal .ensures) (c .print .ensures)
 

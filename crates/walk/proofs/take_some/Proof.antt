@@ -4,66 +4,47 @@ use Rattle.walk.proofs.Chunks.{prefix-counts, step-ended, step-failed, 
 use borrow.Author.Needs.{needs}
 use Rattle.walk.proofs.take_some.Statement.{statement}
 use Rattle.walk.proofs.take_some.Tie as tie
-use Rattle.walk.proofs.take_some.Reads as reads
-use Rattle.walk.proofs.take_some.Lts as lts
-use Rattle.io.proofs.count.Reads as count-reads
-use Rattle.libc.proofs.read.Reads as read-reads
-use Rattle.walk.proofs.print.Reads as print-reads
-use Rattle.walk.proofs.turn.answers.Reads as answers-reads
 
--- src/main.rt:170:9
 read-requires : tie.Need-read-requires
 read-requires c κs = search needs
 
--- src/main.rt:171:9
 count-requires : tie.Need-count-requires
 count-requires c κs = search needs
 
--- src/main.rt:173:9
 same-length : tie.Need-same-length
 same-length c = search needs
 
--- src/main.rt:173:9
 returns : tie.Need-returns
 returns c =
     let s = c .before .before .before .before .before .before .before .before .before .before .args in
     step-ended (s .cell) (s .recipe) (s .table .now) (s .run) (c .before .before .before .before .before .read .last .1 .0) (s .text .now) (c .before .count .result) (c .if1 .taken)
 
--- src/main.rt:181:58
 slice-reshare-prefix-answers : tie.Need-slice-reshare-prefix-answers
 slice-reshare-prefix-answers c = search needs
 
--- src/main.rt:181:58
 slice-aggregate-answers : tie.Need-slice-aggregate-answers
 slice-aggregate-answers c = search needs
 
--- src/main.rt:181:9
 answers-requires : tie.Need-answers-requires
 answers-requires c κs = search needs
 
--- src/main.rt:184:25
 slice-reshare-prefix-print : tie.Need-slice-reshare-prefix-print
 slice-reshare-prefix-print c = search needs
 
--- src/main.rt:184:25
 slice-aggregate-print : tie.Need-slice-aggregate-print
 slice-aggregate-print c =
     let answers = c .before .before .before .before .answers in
     prefix-counts _ (answers .last .1 .1 .1 .1 .1 .0) (answers .ensures .inside)
 
--- src/main.rt:184:9
 print-requires : tie.Need-print-requires
 print-requires c κs = search needs
 
--- src/main.rt:186:9
 same-length-2 : tie.Need-same-length-2
 same-length-2 c = search needs
 
--- src/main.rt:186:9
 same-length-3 : tie.Need-same-length-3
 same-length-3 c = search needs
 
--- src/main.rt:186:9
 returns-2 : tie.Need-returns-2
 returns-2 c =
     let s = c .before .before .before .before .before .before .before .before .before .before .before .before .before .before .before .before .before .before .before .args in
@@ -72,15 +53,12 @@ returns-2 c =
     let whole = c .before .print .ensures ∙ length-take-le (answers .result .length) (answers .last .1 .1 .1 .1 .1 .0) (answers .ensures .inside) in
     step-failed (s .cell) (s .recipe) (s .table .now) (s .run) (c .before .before .before .before .before .before .before .before .before .before .before .before .before .before .read .last .1 .0) (answers .last .1 .1 .1 .1 .1 .0) (count .result) (count .ensures .0 .0) (answers .result) (answers .ensures) (c .before .print .result .length) whole
 
--- src/main.rt:159:1
 same-length-4 : tie.Need-same-length-4
 same-length-4 c = search needs
 
--- src/main.rt:159:1
 same-length-5 : tie.Need-same-length-5
 same-length-5 c = search needs
 
--- src/main.rt:159:1
 returns-3 : tie.Need-returns-3
 returns-3 c =
     let s = c .before .before .before .before .before .before .before .before .before .before .before .before .before .before .before .before .before .before .before .args in

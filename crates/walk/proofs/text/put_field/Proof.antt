@@ -4,27 +4,19 @@ use Rattle.walk.proofs.Pieces.{put-then, digits-few}
 use borrow.Author.Needs.{needs}
 use Rattle.walk.proofs.text.put_field.Statement.{statement}
 use Rattle.walk.proofs.text.put_field.Tie as tie
-use Rattle.walk.proofs.text.put_field.Reads as reads
-use Rattle.walk.proofs.text.put_field.Lts as lts
-use Rattle.walk.proofs.text.put_byte.Reads as put-byte-reads
-use Rattle.walk.proofs.text.put_digits.Reads as put-digits-reads
 
--- src/text.rt:58:9
 put-digits-requires : tie.Need-put-digits-requires
 put-digits-requires c κs = search needs
 
--- src/text.rt:59:5
 put-byte-requires : tie.Need-put-byte-requires
 put-byte-requires c κs =
     let at-put-digits = c .before .before .before in
     let start = c .before .before .before .before .before .before in
     omega (arith, start .pre, at-put-digits .put-digits .ensures .end-is, at-put-digits .put-digits .kept .0, digits-few 20 (start .args .n))
 
--- src/text.rt:54:1
 same-length : tie.Need-same-length
 same-length c = search needs
 
--- src/text.rt:54:1
 returns : tie.Need-returns
 unfolding field
 returns c = put-then (c .before .before .before .before .before .before .put-digits .ensures) (c .before .before .put-byte .ensures)

@@ -4,22 +4,16 @@ use Rattle.walk.proofs.Pieces.{put-then, field-few}
 use borrow.Author.Needs.{needs}
 use Rattle.walk.proofs.text.put_move.Statement.{statement}
 use Rattle.walk.proofs.text.put_move.Tie as tie
-use Rattle.walk.proofs.text.put_move.Reads as reads
-use Rattle.walk.proofs.text.put_move.Lts as lts
-use Rattle.walk.proofs.text.put_field.Reads as put-field-reads
 
--- src/text.rt:67:9
 put-field-requires : tie.Need-put-field-requires
 put-field-requires c κs = search needs
 
--- src/text.rt:68:9
 put-field-requires-2 : tie.Need-put-field-requires-2
 put-field-requires-2 c κs =
     let at-put-field = c .before .before .before in
     let start = c .before .before .before .before .before .before in
     omega (arith, start .pre, at-put-field .put-field .ensures .end-is, at-put-field .put-field .kept .0, field-few (start .args .position) 44)
 
--- src/text.rt:69:5
 put-field-requires-3 : tie.Need-put-field-requires-3
 put-field-requires-3 c κs =
     let at-put-field2 = c .before .before .before in
@@ -36,11 +30,9 @@ put-field-requires-3 c κs =
       field-few (start .args .entry) 44,
     )
 
--- src/text.rt:63:1
 same-length : tie.Need-same-length
 same-length c = search needs
 
--- src/text.rt:63:1
 returns : tie.Need-returns
 unfolding moveLine
 returns c =

@@ -3,28 +3,19 @@ use Rattle.walk.proofs.Pieces.{put-then}
 use borrow.Author.Needs.{needs}
 use Rattle.walk.proofs.text.put_refusal.Statement.{statement}
 use Rattle.walk.proofs.text.put_refusal.Tie as tie
-use Rattle.walk.proofs.text.put_refusal.Reads as reads
-use Rattle.walk.proofs.text.put_refusal.Lts as lts
-use Rattle.walk.proofs.text.put_bytes.Reads as put-bytes-reads
-use Rattle.walk.proofs.text.put_field.Reads as put-field-reads
 
--- src/text.rt:77:35
 slice-aggregate-put-bytes : tie.Need-slice-aggregate-put-bytes
 slice-aggregate-put-bytes c = search needs
 
--- src/text.rt:77:9
 put-bytes-requires : tie.Need-put-bytes-requires
 put-bytes-requires c κs = search needs
 
--- src/text.rt:78:5
 put-field-requires : tie.Need-put-field-requires
 put-field-requires c κs = search needs
 
--- src/text.rt:73:1
 same-length : tie.Need-same-length
 same-length c = search needs
 
--- src/text.rt:73:1
 returns : tie.Need-returns
 unfolding refusalLine
 returns c = put-then (c .before .before .before .before .before .before .put-bytes .ensures) (c .before .before .put-field .ensures)

@@ -8,9 +8,6 @@ use Rattle.walk.specs.Turn.{Answers}
 use Rattle.walk.proofs.Parts.{answers-none, answers-next, answers-few, answers-ended, answers-all}
 use Rattle.walk.proofs.turn.answers.Statement.{statement}
 use Rattle.walk.proofs.turn.answers.Tie as tie
-use Rattle.walk.proofs.turn.answers.Reads as reads
-use Rattle.walk.proofs.turn.answers.Lts as lts
-use Rattle.walk.proofs.turn.answer.Reads as answer-reads
 
 abbrev Inv-loop : tie.InvT-loop
 Inv-loop cell recipe table bytes text₀ all₀ i₀ text all i = (i ≤ length bytes) × (64 * length bytes ≤ length text₀) × (length text ≡ length text₀) × (all .length ≤ 64 * i) × (all .more ≡ true) × Answers cell recipe table (all₀ .run) (take i bytes) text all
@@ -18,42 +15,34 @@ Inv-loop cell recipe table bytes text₀ all₀ i₀ text all i = (i ≤ length 
 abbrev μ-loop : tie.MeasureT-loop
 μ-loop cell recipe table bytes text₀ all₀ i₀ text all i = length bytes - i
 
--- src/turn.rt:96:5
 loop-holds : tie.Need-loop-holds Inv-loop μ-loop
 loop-holds c =
     let s = c .before .before .before .args in
     (omega arith, c .before .before .before .pre, refl, omega arith, refl, answers-none (s .cell) (s .recipe) (s .table .now) (s .run) (s .bytes .now) (s .text .now))
 
--- src/turn.rt:97:52
 shared-slice-read-answer : tie.Need-shared-slice-read-answer Inv-loop μ-loop
 shared-slice-read-answer c = omega arith
 
--- src/turn.rt:97:9
 answer-requires : tie.Need-answer-requires Inv-loop μ-loop
 answer-requires c κs =
     let l = c .before .before .before .loop in
     omega (arith, l .inv .1, l .inv .2, l .inv .3)
 
--- src/turn.rt:99:13
 same-length : tie.Need-same-length Inv-loop μ-loop
 same-length c = c .before .before .before .before .answer .kept .1 .1 .1 .1 .1 .0 ∙ c .before .before .before .before .before .before .before .before .loop .inv .2
 
--- src/turn.rt:99:13
 returns : tie.Need-returns Inv-loop μ-loop
 returns c =
     let l = c .before .before .before .before .before .before .before .before .loop in
     let s = c .before .before .before .before .before .before .before .before .before .before .before .before .args in
     answers-ended (s .cell) (s .recipe) (s .table .now) (s .run) (s .bytes .now) (l .text) _ (l .i) (omega arith) (l .all) (c .before .before .before .before .answer .result) (l .inv .5) (l .inv .4) (c .before .before .before .before .answer .ensures) (not-true _ (c .if1 .taken))
 
--- src/turn.rt:101:9
 add-i : tie.Need-add-i Inv-loop μ-loop
 add-i c = record { fits = omega arith }
 
--- src/turn.rt:96:5
 loop-less : tie.Need-loop-less Inv-loop μ-loop
 loop-less c = omega arith
 
--- src/turn.rt:96:5
 loop-again : tie.Need-loop-again Inv-loop μ-loop
 loop-again c =
     let l = c .before .before .before .before .before .before .before .before .loop in
@@ -67,11 +56,9 @@ loop-again c =
       answers-next (s .cell) (s .recipe) (s .table .now) (s .run) (s .bytes .now) (l .text) _ (l .i) (omega arith) (l .all) (c .before .before .before .before .answer .result) (l .inv .5) (l .inv .4) (c .before .before .before .before .answer .ensures),
     )
 
--- src/turn.rt:79:1
 same-length-2 : tie.Need-same-length-2 Inv-loop μ-loop
 same-length-2 c = c .before .loop .inv .2
 
--- src/turn.rt:79:1
 returns-2 : tie.Need-returns-2 Inv-loop μ-loop
 returns-2 c =
     let s = c .before .before .before .before .before .args in
