@@ -3,62 +3,37 @@
 -- from a fresh run where the plan was accepted.
 -- Assumes nothing.
 use mathlib.Core.Path.{_≡_, refl, sym, ap, subst, _∙_}
-use mathlib.Core.Bool.{Bool, true, false, cond}
+use mathlib.Core.Bool.{Bool, true, false}
 use mathlib.Core.List.{List, [], _∷_, _++_, map, append-nil}
 use Prim.Native.Nat.{ℕ, _≤_}
 use native.Mathlib.Omega.{arith}
-use lib.ListN.{length, drop, length-append, length-map}
-use lib.Dec.{eqb, ltb}
+use lib.ListN.{length, drop, length-append}
+use lib.Dec.{ltb}
 use borrow.Author.Tests.{le-ltb, ltb-false}
-use Rattle.refusals.specs.declared.Refusal.{Refusal}
-use Rattle.refusals.specs.declared.Refusal.the-variants.{Names, Form, LineCount, Range, ResourceGap, NoPartner, PointOrder, RepeatedPoint, UnusedField, NoParts, CommonPart, TargetPoint, TooManyPositions, TooShort, NotRealisable, RunRange, OutcomeRange, NotOpen, AtEnd}
 use Rattle.refusals.specs.declared.Verdict.{Verdict}
 use Rattle.refusals.specs.declared.Verdict.the-variants.{Accepted, Refused}
-use Rattle.refusals.specs.Refusal.{numberOf}
-use Rattle.refusals.specs.Verdict.{noLine, refusalIn}
+use Rattle.refusals.specs.Verdict.{refusalIn}
 use Rattle.refusals.specs.Search.{tabulate}
-use Rattle.refusals.proofs.Listed.{length-tabulate}
-use Rattle.refusals.proofs.Verdicts.{first-accepts, next-accepts}
+use Rattle.refusals.proofs.Verdicts.{zero-accepts}
 use Rattle.cell.specs.declared.Cell.{Cell}
 use Rattle.recipe.specs.declared.Recipe.{Recipe}
-use Rattle.positions.specs.declared.Configuration.{Configuration}
-use Rattle.positions.specs.Position.{start}
-use Rattle.positions.specs.Rules.{checkRecords, checkSizes}
-use Rattle.steps.specs.Lines.{linesOf, kindOf, placeOf}
-use Rattle.steps.specs.Carry.{placed, partsMoved}
-use Rattle.steps.specs.Entry.{entryKind, letter}
-use Rattle.steps.specs.Single.{statesAfter, linesTaken, transferred, carried, makes}
-use Rattle.steps.proofs.Afterwards.{length-states}
+use Rattle.positions.specs.Position.{start, entryOf}
+use Rattle.steps.proofs.Effects.{makes-six, makes-eight}
 use Rattle.run.specs.declared.Run.{Run}
 use Rattle.run.specs.declared.Report.{Report}
 use Rattle.run.specs.Calls.{freshRun, nextMove, nextRun, reportAnswer, reportOf, entryAt}
 use Rattle.run.specs.Book.{Call}
 use Rattle.run.specs.Promises.{runAfter, runAnswer, runAnswers}
 use Rattle.simulation.specs.Simulation.{Position}
-use Rattle.simulation.specs.Plan.{entryOf, Planned}
-use Rattle.simulation.proofs.Planning.{starts}
-use Rattle.planner.specs.Call.{checkPlan, Filled}
+use Rattle.simulation.specs.Plan.{Planned}
+use Rattle.planner.specs.Call.{PlanCall}
+use Rattle.planner.proofs.Demands.{accepted-planned, accepted-starts, accepted-alive}
 use Rattle.capi.specs.Encoding.{cellFrom, recipeFrom, runBytes, runFrom}
 use Rattle.capi.specs.Answer.{Answered, moveCode, Reported, PlanAnswered}
 use Rattle.capi.specs.Lists.{Found, numbered, held, foundOf, ByteCalls, no-call, ask-then, report-then, RecordCalls, record-none, record-asks, record-reports, ListPromises, BytePromises, RecordListPromises}
-use Rattle.capi.proofs.Decoding.{Whole, run-length, run-back}
+use Rattle.capi.proofs.BytesRoundTrip.{Whole, run-length, run-back}
 
--- what an entry makes of six states and eight places are six and eight again
-made-whole : (c : Cell) (r : Recipe) (p e : ℕ) (a : Configuration) → Whole a → Whole (makes c r p a e)
-unfolding makes linesTaken transferred carried partsMoved
-made-whole c r p e a whole = decide (eqb (entryKind e) 1) (eqb (entryKind e) 2) (eqb (entryKind e) 3) (eqb (kindOf r p) 1)
-  where
-    states : (n : ℕ) → length (statesAfter (c .resource) (c .to) (letter e) n (a .state)) ≡ 6
-    states n = length-states c (letter e) n (a .state) ∙ whole .six
-
-    decide : (s t u d : Bool) → Whole (cond s (linesTaken c e 1 a) (cond t (transferred c e a) (cond u (cond d (partsMoved c r p (letter e) (linesTaken c e (linesOf r p) a)) (linesTaken c e (linesOf r p) a)) a)))
-    decide true t u d = record { six = states 1; eight = whole .eight }
-    decide false true u d = record { six = states 2; eight = length-map (a .place) _ ∙ whole .eight }
-    decide false false true true = record { six = states (linesOf r p); eight = length-tabulate (λ q. placed c r p (letter e) q (placeOf (linesTaken c e (linesOf r p) a) q)) 8 }
-    decide false false true false = record { six = states (linesOf r p); eight = whole .eight }
-    decide false false false d = whole
-
--- so is the run of a report's answer
+-- the run of a report's answer holds six states and eight places if the run before did
 answer-whole : (verdict : Verdict) (run next : Run) → Whole (run .configuration) → Whole (next .configuration) → Whole (reportAnswer verdict run next .run .configuration)
 unfolding reportAnswer
 answer-whole Accepted run next own other = other
@@ -67,9 +42,11 @@ answer-whole (Refused refusal line) run next own other = own
 report-whole : (c : Cell) (r : Recipe) (table : List ℕ) (run : Run) (outcome : ℕ) → Whole (run .configuration) → Whole (reportOf c r table run outcome .run .configuration)
 unfolding reportOf nextRun
 report-whole c r table run outcome whole =
-    answer-whole _ run _ whole (made-whole c r (run .point) (entryAt c r table run) (run .configuration) whole)
+    let e = entryAt c r table run in
+    answer-whole _ run _ whole
+    (record { six = makes-six c r (run .point) (run .configuration) e outcome (whole .six); eight = makes-eight c r (run .point) (run .configuration) e outcome (whole .eight) })
 
--- and the run that bytes hold
+-- so does the run that bytes hold
 bytes-whole : (bytes : List ℕ) → 15 ≤ length bytes → Whole (runFrom bytes .configuration)
 unfolding runFrom tabulate
 bytes-whole bytes long = rw (le-ltb (length bytes) 15 long) (record { six = refl; eight = refl })
@@ -149,64 +126,13 @@ module _
     records-keep =
         list-keeps (RecordCalls cell recipe table run calls) (λ found finds. recorded-answers cell recipe table run calls found (record { six = position .six; eight = position .eight }) finds)
 
--- no refusal has the number 0
-number-some : (refusal : Refusal) → 1 ≤ numberOf refusal
-number-some Names = omega arith
-number-some Form = omega arith
-number-some LineCount = omega arith
-number-some Range = omega arith
-number-some ResourceGap = omega arith
-number-some NoPartner = omega arith
-number-some PointOrder = omega arith
-number-some RepeatedPoint = omega arith
-number-some UnusedField = omega arith
-number-some NoParts = omega arith
-number-some CommonPart = omega arith
-number-some TargetPoint = omega arith
-number-some TooManyPositions = omega arith
-number-some TooShort = omega arith
-number-some NotRealisable = omega arith
-number-some RunRange = omega arith
-number-some OutcomeRange = omega arith
-number-some NotOpen = omega arith
-number-some AtEnd = omega arith
-
--- a plan call that answers 0 has left a plan, and the start has an entry
-module _ (c : Cell) (r : Recipe) (table scratch table′ scratch′ : List ℕ) (plan : PlanAnswered c r table scratch table′ scratch′ 0) where
-  passes : checkPlan c r (length table) (length scratch) ≡ Accepted
-  unfolding refusalIn
-  passes = decide (checkPlan c r (length table) (length scratch)) refl
-    where
-      decide : (verdict : Verdict) → checkPlan c r (length table) (length scratch) ≡ verdict → checkPlan c r (length table) (length scratch) ≡ Accepted
-      decide Accepted e = e
-      decide (Refused refusal line) e =
-          let none : (checkPlan c r (length table) (length scratch) ≡ Accepted → ⊥) = λ accepts. omega (arith, number-some refusal, ap refusalIn (sym accepts ∙ e)) in
-          let zero : 0 ≡ numberOf refusal = plan .answer-is ∙ ap refusalIn (plan .call .refused-first none .answer ∙ e) in
-          let never : ⊥ = omega (arith, number-some refusal) in
-          absurd never
-
-  filled : Filled c r table scratch table′ scratch′ (plan .verdict)
-  filled = plan .call .passed passes
-
-  accepted : filled .refused ≡ false
-  unfolding refusalIn noLine
-  accepted = decide (filled .refused) refl
-    where
-      decide : (refused : Bool) → filled .refused ≡ refused → filled .refused ≡ false
-      decide false e = e
-      decide true e =
-          let z : _≡_ {A = ℕ} 0 15 = plan .answer-is ∙ ap refusalIn (filled .answer ∙ ap (noLine NotRealisable) e) in
-          let never : ⊥ = omega arith in
-          absurd never
-
-  begins : Position c r 0 start
-  unfolding checkPlan checkSizes checkRecords
-  begins =
-      let checked : checkRecords c r ≡ Accepted = first-accepts _ _ (first-accepts _ _ passes) in
-      starts c r (first-accepts _ _ checked) (next-accepts _ _ checked)
-
-  alive : entryOf c r table′ 0 start ≡ 0 → ⊥
-  alive zero = filled .planned .zero-lacks 0 start begins zero (filled .planned .accepted-holds accepted)
+-- a plan call that answers 0 is accepted
+plan-accepted :
+    (c : Cell) (r : Recipe) (table scratch table′ scratch′ : List ℕ)
+    → PlanAnswered c r table scratch table′ scratch′ 0
+    → PlanCall c r table scratch table′ scratch′ Accepted
+plan-accepted c r table scratch table′ scratch′ plan =
+    subst (λ (v : Verdict). PlanCall c r table scratch table′ scratch′ v) (zero-accepts (plan .verdict) (sym (plan .answer-is))) (plan .call)
 
 -- a fresh call that answers 0 has written a fresh run
 module _ (entry bytes : List ℕ) (fresh : Answered Accepted (runBytes freshRun) 15 entry bytes 0) where
@@ -240,8 +166,8 @@ unfolding freshRun
 fresh-keeps cell recipe table scratch table′ scratch′ entry bytes plan fresh calls =
     let c = cellFrom cell in
     let r = recipeFrom recipe in
-    let left = filled c r table scratch table′ scratch′ plan in
-    bytes-keep cell recipe table table′ (left .refused) (left .planned) freshRun (begins c r table scratch table′ scratch′ plan) (alive c r table scratch table′ scratch′ plan) calls
+    let call = plan-accepted c r table scratch table′ scratch′ plan in
+    bytes-keep cell recipe table table′ false (accepted-planned c r table scratch table′ scratch′ call) freshRun (accepted-starts c r table scratch table′ scratch′ call) (accepted-alive c r table scratch table′ scratch′ call) calls
     bytes (fresh-long entry bytes fresh) (holds-fresh entry bytes fresh)
 
 -- and from a record that is a fresh run
@@ -254,5 +180,5 @@ unfolding freshRun
 fresh-record-keeps cell recipe table scratch table′ scratch′ plan calls =
     let c = cellFrom cell in
     let r = recipeFrom recipe in
-    let left = filled c r table scratch table′ scratch′ plan in
-    records-keep cell recipe table table′ (left .refused) (left .planned) freshRun (begins c r table scratch table′ scratch′ plan) (alive c r table scratch table′ scratch′ plan) calls
+    let call = plan-accepted c r table scratch table′ scratch′ plan in
+    records-keep cell recipe table table′ false (accepted-planned c r table scratch table′ scratch′ call) freshRun (accepted-starts c r table scratch table′ scratch′ call) (accepted-alive c r table scratch table′ scratch′ call) calls

@@ -15,7 +15,7 @@ use Rattle.run.specs.declared.Run.{Run}
 use Rattle.run.specs.Calls.{reportAnswer, reportOf}
 use Rattle.capi.specs.Encoding.{runBytes, runFrom}
 use Rattle.capi.specs.Answer.{Reported}
-use Rattle.capi.proofs.Decoding.{run-bytes-back}
+use Rattle.capi.proofs.BytesRoundTrip.{run-bytes-back}
 
 -- "a refused report its own run"
 own-run : (verdict : Verdict) (run next : Run) → (refusalIn (reportAnswer verdict run next .verdict) ≡ 0 → ⊥) → reportAnswer verdict run next .run ≡ run

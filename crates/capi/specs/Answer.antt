@@ -1,4 +1,4 @@
--- What the calls of the C interface answer, and the lent buffer afterwards. Assumes nothing.
+-- What the calls of the C interface answer, and the lent buffer afterwards, as include/cellplan.h says it. Assumes nothing.
 use mathlib.Core.Path.{_≡_}
 use mathlib.Core.Bool.{cond}
 use mathlib.Core.List.{List, _++_}
@@ -19,32 +19,33 @@ use Rattle.run.specs.Record.{Stored}
 use Rattle.planner.specs.Call.{PlanCall}
 use Rattle.capi.specs.Encoding.{codeOf, runBytes}
 
--- "A buffer lent for the answer .. that is too short gets 14, line 0, before anything else, and nothing is written";
--- else the answer is the verdict's, the buffer starts with the record's bytes, "refused or not", and its rest stays
+-- a buffer lent for the answer that is too short gets 14 with line 0, whatever else was handed in, and stays as it was;
+-- otherwise the answer is the verdict's, the buffer begins with the record's bytes, refused or not, and its rest stays
 pub record Answered (verdict : Verdict) (bytes : List ℕ) (size : ℕ) (entry exit : List ℕ) (answer : ℕ) : Type 0 where
   pub answer-is : answer ≡ cond (ltb (length entry) size) (numberOf TooShort) (codeOf verdict)
   pub buffer-is : exit ≡ cond (ltb (length entry) size) entry (bytes ++ drop size entry)
 
--- "refusal × 2^32 + entry"
+-- a next-move call's result: refusal × 2^32 + entry
 unfoldable pub moveCode : Move → ℕ
 moveCode move = refusalIn (move .verdict) * 2 ^ 32 + move .entry
 
--- "refusal × 256 + place (255 if refused)"
+-- a place call's result: refusal × 256 + place, the place being 255 if refused
 unfoldable pub placeCode : Place → ℕ
 placeCode place = refusalIn (place .verdict) * 256 + place .place
 
--- "refusal or 0; the run's bytes are the next run"; bytes too few for a run "count for nothing and stay"
+-- a report's result: the refusal or 0. The run's bytes are then those of the next run, and what stands past them stays;
+-- bytes too few for a run stay as they were
 pub record Reported (report : Report) (entry exit : List ℕ) (answer : ℕ) : Type 0 where
   pub answer-is : answer ≡ refusalIn (report .verdict)
   pub run-is : exit ≡ cond (ltb (length entry) 15) entry (runBytes (report .run) ++ drop 15 entry)
 
--- "refusal or 0": the number of the verdict with which the report leaves the record `after`
+-- the refusal or 0: the number of the verdict with which the report leaves the record `after`
 pub record Recorded (c : Cell) (r : Recipe) (table : List ℕ) (before : Run) (outcome : ℕ) (after : Run) (answer : ℕ) : Type 0 where
   pub verdict : Verdict
   pub answer-is : answer ≡ refusalIn verdict
   pub stored : Stored c r table before outcome verdict after
 
--- "refusal or 0": the number of the verdict with which the plan call leaves the table and the scratch so
+-- the refusal or 0: the number of the verdict with which the plan call leaves the table and the scratch so
 pub record PlanAnswered (c : Cell) (r : Recipe) (table scratch table′ scratch′ : List ℕ) (answer : ℕ) : Type 0 where
   pub verdict : Verdict
   pub answer-is : answer ≡ refusalIn verdict

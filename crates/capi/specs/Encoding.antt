@@ -1,4 +1,4 @@
--- How the C interface writes records and verdicts as bytes and numbers. Assumes nothing.
+-- How the C interface writes records, runs and verdicts as bytes and numbers, as include/cellplan.h says it. Assumes nothing.
 use mathlib.Core.Bool.{cond}
 use mathlib.Core.List.{List, [], _∷_, _++_}
 use Prim.Native.Nat.{ℕ, zero, suc, _+_, _*_, _%_, _^_}
@@ -20,19 +20,19 @@ unfoldable pub rowsOf : (ℕ → List ℕ) → ℕ → List ℕ
 rowsOf row zero = []
 rowsOf row (suc n) = rowsOf row n ++ row n
 
--- a line of a cell record, "`resource, from, act, arg, to`"
+-- a line of a cell record: resource, from, act, arg, to
 unfoldable pub cellRow : Cell → ℕ → List ℕ
 cellRow c n = getD (c .resource) n 0 ∷ getD (c .from) n 0 ∷ getD (c .act) n 0 ∷ getD (c .arg) n 0 ∷ getD (c .to) n 0 ∷ []
 
--- "byte 0 the line count, then 64 times `resource, from, act, arg, to`"
+-- the 321 bytes of a cell record: byte 0 is the line count, then follow the 64 lines
 unfoldable pub cellBytes : Cell → List ℕ
 cellBytes c = c .count ∷ rowsOf (cellRow c) 64
 
--- a line of a recipe record, "`point, kind, op, takes, gives, then, else`"
+-- a line of a recipe record: point, kind, op, takes, gives, then, else
 unfoldable pub recipeRow : Recipe → ℕ → List ℕ
 recipeRow r n = getD (r .point) n 0 ∷ getD (r .kind) n 0 ∷ getD (r .op) n 0 ∷ getD (r .takes) n 0 ∷ getD (r .gives) n 0 ∷ getD (r .then) n 0 ∷ getD (r .otherwise) n 0 ∷ []
 
--- "byte 0 the line count, then 64 times `point, kind, op, takes, gives, then, else`"
+-- the 449 bytes of a recipe record: byte 0 is the line count, then follow the 64 lines
 unfoldable pub recipeBytes : Recipe → List ℕ
 recipeBytes r = r .count ∷ rowsOf (recipeRow r) 64
 
@@ -40,7 +40,7 @@ recipeBytes r = r .count ∷ rowsOf (recipeRow r) 64
 unfoldable pub columnOf : ℕ → List ℕ → ℕ → List ℕ
 columnOf width bytes i = tabulate 64 (λ n. getD bytes (1 + n * width + i) 0)
 
--- the record that bytes hold; "A record handed in shorter than that counts as one of no lines"
+-- the record that bytes hold; bytes too few for a record count as one of no lines
 unfoldable pub cellFrom : List ℕ → Cell
 cellFrom bytes =
     cond (ltb (length bytes) 321) noCell
@@ -67,12 +67,12 @@ recipeFrom bytes =
       otherwise = columnOf 7 bytes 6;
     })
 
--- "Of a run: point, six states, eight places (15 bytes)"
+-- the 15 bytes of a run: the point, six states, eight places
 unfoldable pub runBytes : Run → List ℕ
 runBytes run =
     run .point ∷ tabulate 6 (λ k. getD (run .configuration .state) k 0) ++ tabulate 8 (λ n. getD (run .configuration .place) n 0)
 
--- the run that bytes hold; "a run shorter than that as one out of range": no recipe has a point 255
+-- the run that bytes hold; bytes too few for a run count as a run out of range: no recipe has a point 255
 unfoldable pub runFrom : List ℕ → Run
 runFrom bytes =
     cond (ltb (length bytes) 15) (record { point = 255; configuration = start })
@@ -81,7 +81,7 @@ runFrom bytes =
       configuration = record { state = tabulate 6 (λ k. getD bytes (1 + k) 0); place = tabulate 8 (λ n. getD bytes (7 + n) 0) };
     })
 
--- "refusal + 256 × line, 0 if accepted"; the line modulo 2 ^ 56, so that it fits for any file
+-- a reader's result: refusal + 256 × line, 0 if accepted; the line modulo 2 ^ 56, so that it fits for any file
 unfoldable pub codeOf : Verdict → ℕ
 codeOf Accepted = 0
 codeOf (Refused refusal line) = numberOf refusal + 256 * (line % 2 ^ 56)

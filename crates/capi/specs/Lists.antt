@@ -17,7 +17,7 @@ pub data Found : Type 0 where
   numbered : ℕ → Found
   held : ℕ → Run → Found
 
--- an answer of the book as a caller has it: "refusal × 2^32 + entry"; "refusal or 0; the run's bytes are the next run"
+-- an answer of the book as a caller has it: refusal × 2^32 + entry; or the refusal or 0, and the run that the bytes then hold
 unfoldable pub foundOf : Answer → Found
 foundOf (moved refusal entry) = numbered (refusal * 2 ^ 32 + entry)
 foundOf (reported refusal point configuration) = held refusal (record { point = point; configuration = configuration })

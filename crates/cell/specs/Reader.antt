@@ -4,12 +4,12 @@ use Prim.Native.Nat.{ℕ}
 use lib.ListN.{length, replicate}
 use Rattle.refusals.specs.declared.Verdict.{Verdict}
 use Rattle.refusals.specs.declared.Verdict.the-variants.{Accepted, Refused}
-use Rattle.refusals.specs.Verdict.{before}
+use Rattle.refusals.specs.Verdict.{firstRefusal}
 use Rattle.tables.specs.Lines.{valueLines}
 use Rattle.tables.specs.Table.{rule1, rule2, column}
 use Rattle.cell.specs.declared.Cell.{Cell}
 use Rattle.cell.specs.declared.CellReading.{CellReading}
-use Rattle.cell.specs.Rules.{checkCell}
+use Rattle.cell.specs.Rules.{cellRules}
 
 -- "The first line is exactly `resource,from,act,arg,to`", in ASCII
 unfoldable pub cellNames : List ℕ
@@ -30,7 +30,7 @@ cellOf file =
 
 -- "Each of the two readers tries a rule over the whole file before the next rule."
 unfoldable pub judgeCell : List ℕ → Verdict
-judgeCell file = before (rule1 cellNames file) (before (rule2 5 file) (checkCell (cellOf file)))
+judgeCell file = firstRefusal (rule1 cellNames file ∷ rule2 5 file ∷ cellRules (cellOf file))
 
 -- "a record of no lines"
 abbrev pub noCell : Cell

@@ -1,19 +1,19 @@
 -- The rules on a cell record, in the order of the refusal list. Each sees the first `count` lines alone.
 -- Assumes nothing.
 use mathlib.Core.Bool.{Bool, cond, not, _&&_, _||_}
-use mathlib.Core.List.{List}
+use mathlib.Core.List.{List, [], _∷_}
 use Prim.Native.Nat.{ℕ}
 use lib.ListN.{getD}
 use lib.Dec.{eqb, leb}
 use Rattle.refusals.specs.declared.Verdict.{Verdict}
 use Rattle.refusals.specs.declared.Refusal.the-variants.{Range, ResourceGap, NoPartner}
 use Rattle.refusals.specs.Search.{anyBelow, greatestBelow}
-use Rattle.refusals.specs.Verdict.{before, firstLine, noLine, rule3}
+use Rattle.refusals.specs.Verdict.{firstRefusal, firstLine, noLine, rule3}
 use Rattle.cell.specs.declared.Cell.{Cell}
 
 -- "Ranges: resource 0 to 5, from and to 0 to 7, arg 0 to 63, act: 0 internal, 1 operation, 2 in, 3 out."
 unfoldable pub inRange : ℕ → ℕ → ℕ → ℕ → ℕ → Bool
-inRange resource from act arg to = leb act 3 && (leb resource 5 && (leb from 7 && (leb arg 63 && leb to 7)))
+inRange resource from act arg to = leb resource 5 && (leb from 7 && (leb act 3 && (leb arg 63 && leb to 7)))
 
 -- "A number leaves its range": one of line n's numbers does
 unfoldable pub leavesRange : List ℕ → List ℕ → List ℕ → List ℕ → List ℕ → ℕ → Bool
@@ -65,6 +65,13 @@ unpaired resource act arg count i = inOrOut (getD act i 0) && not (anyBelow (par
 unfoldable pub rule6 : Cell → Verdict
 rule6 c = firstLine NoPartner (unpaired (c .resource) (c .act) (c .arg) (c .count)) (c .count)
 
+-- what is tried of a cell whose numbers are in range, in order
+unfoldable pub afterRange : Cell → List Verdict
+afterRange c = rule5 c ∷ rule6 c ∷ []
+
 -- "Planner and run calls check handed-in values anew from rule 3, cell first: all of its rules"
+unfoldable pub cellRules : Cell → List Verdict
+cellRules c = rule3 (c .count) ∷ rule4 c ∷ afterRange c
+
 unfoldable pub checkCell : Cell → Verdict
-checkCell c = before (rule3 (c .count)) (before (rule4 c) (before (rule5 c) (rule6 c)))
+checkCell c = firstRefusal (cellRules c)

@@ -6,9 +6,9 @@ pub mod resources;
 
 ghost use mathlib.Core.Path.{_≡_};
 ghost use Prim.Native.Nat.{_≤_};
-ghost use Rattle.refusals.specs.Verdict.{before};
+ghost use Rattle.refusals.specs.Verdict.{firstRefusal};
 ghost use Rattle.cell.specs.Reader.{readCell};
-ghost use Rattle.cell.specs.Rules.{rule4, rule5, rule6, checkCell};
+ghost use Rattle.cell.specs.Rules.{rule4, afterRange, checkCell};
 use refusals::Refusal;
 use refusals::Verdict;
 use tables::Form;
@@ -47,7 +47,7 @@ fn check_ranges(cell: Cell) -> Verdict
 // Rules 5 and 6, on a record that passed rules 3 and 4.
 pub fn check_ports(cell: Cell) -> Verdict
     requires { ⌜ cell .count ≤ 64 ⌝ }
-    ensures { λ r. ⌜ r ≡ before (rule5 cell) (rule6 cell) ⌝ }
+    ensures { λ r. ⌜ r ≡ firstRefusal (afterRange cell) ⌝ }
 {
     let count = cell.count;
     let resource = cell.resource;

@@ -4,39 +4,23 @@ ghost use Prim.Native.Nat.{_≤_};
 ghost use Rattle.refusals.specs.Search.{firstBelow};
 ghost use Rattle.cell.specs.Rules.{inRange, leavesRange};
 
-// Whether the numbers of a line are each in its range; a reader asks before it stores them.
-pub fn in_range(resource: u32, from: u32, act: u32, arg: u32, to: u32) -> bool
+// Whether the numbers of a line are each in its range.
+fn in_range(resource: u8, from: u8, act: u8, arg: u8, to: u8) -> bool
     ensures { λ r. ⌜ r ≡ inRange resource from act arg to ⌝ }
 {
-    match act {
-        0 | 1 | 2 | 3 => {}
-        _ => {
-            return false;
-        }
-    }
     if 5 < resource {
         return false;
     }
     if 7 < from {
         return false;
     }
+    if 3 < act {
+        return false;
+    }
     if 63 < arg {
         return false;
     }
     to <= 7
-}
-
-// The same of a record's bytes: one that is a parameter widens with nothing to show.
-fn bytes_in_range(resource: u8, from: u8, act: u8, arg: u8, to: u8) -> bool
-    ensures { λ r. ⌜ r ≡ inRange resource from act arg to ⌝ }
-{
-    in_range(
-        resource as u32,
-        from as u32,
-        act as u32,
-        arg as u32,
-        to as u32,
-    )
 }
 
 // The first line of which a number leaves its range, or the count.
@@ -53,7 +37,7 @@ pub fn first_out_of_range(
 {
     let mut i = 0;
     while i < count {
-        if !bytes_in_range(resource[i], from[i], act[i], arg[i], to[i]) {
+        if !in_range(resource[i], from[i], act[i], arg[i], to[i]) {
             return i;
         }
         i += 1;

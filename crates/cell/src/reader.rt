@@ -1,18 +1,18 @@
 // The numbers of a cell file that passed rules 1 and 2, read into a record.
 ghost use mathlib.Core.Path.{_≡_};
-ghost use mathlib.Core.List.{List};
+ghost use mathlib.Core.List.{List, _∷_};
 ghost use Prim.Native.Nat.{ℕ, _≤_};
 ghost use lib.ListN.{length};
-ghost use Rattle.refusals.specs.Verdict.{before};
+ghost use Rattle.refusals.specs.Verdict.{firstRefusal};
 ghost use Rattle.tables.specs.Lines.{valueLines};
 ghost use Rattle.tables.specs.Reading.{Kept};
 ghost use Rattle.cell.specs.Reader.{cellOf, reading, noCell};
-ghost use Rattle.cell.specs.Rules.{rule4, rule5, rule6, checkCell};
+ghost use Rattle.cell.specs.Rules.{rule4, afterRange, checkCell};
 use crate::Cell;
 use crate::CellReading;
-use crate::range;
 use refusals::Refusal;
 use refusals::Verdict;
+use tables::field;
 
 // The answer with a refusal: a record of no lines.
 pub fn refused(refusal: Refusal, line: usize) -> CellReading
@@ -34,7 +34,7 @@ pub fn refused(refusal: Refusal, line: usize) -> CellReading
 // The answer for a record that passed rule 4.
 fn judged(cell: Cell) -> CellReading
     requires { ⌜ cell .count ≤ 64 ⌝ }
-    ensures { λ r. ⌜ r ≡ reading (before (rule5 cell) (rule6 cell)) cell ⌝ }
+    ensures { λ r. ⌜ r ≡ reading (firstRefusal (afterRange cell)) cell ⌝ }
 {
     match crate::check_ports(cell) {
         Verdict::Accepted => CellReading {
@@ -45,34 +45,24 @@ fn judged(cell: Cell) -> CellReading
     }
 }
 
-// Rule 4 and the rest, over the numbers that rule 2 kept: they are stored once they are in range.
+// Rule 4 and the rest, over the numbers that rule 2 kept: each field as far as those before it are in range.
 fn store_lines(numbers: &[u32], count: usize) -> CellReading
     requires { ⌜ (448 ≤ length (now numbers)) × (count ≤ 64) ⌝ }
-    ensures { λ r. ⌜ ((file : List ℕ) → count ≡ length (valueLines file) → Kept 5 file count (now (numbers .entry)) → r ≡ reading (before (rule4 (cellOf file)) (before (rule5 (cellOf file)) (rule6 (cellOf file)))) (cellOf file)) ⌝ }
+    ensures { λ r. ⌜ ((file : List ℕ) → count ≡ length (valueLines file) → Kept 5 file count (now (numbers .entry)) → r ≡ reading (firstRefusal (rule4 (cellOf file) ∷ afterRange (cellOf file))) (cellOf file)) ⌝ }
 {
-    let mut resource = [0u8; 64];
-    let mut from = [0u8; 64];
-    let mut act = [0u8; 64];
-    let mut arg = [0u8; 64];
-    let mut to = [0u8; 64];
-    let mut i = 0;
-    while i < count {
-        let at = i * 7;
-        let a = numbers[at];
-        let b = numbers[at + 1];
-        let c = numbers[at + 2];
-        let d = numbers[at + 3];
-        let e = numbers[at + 4];
-        if !range::in_range(a, b, c, d, e) {
-            return refused(Refusal::Range, i + 2);
-        }
-        resource[i] = a as u8;
-        from[i] = b as u8;
-        act[i] = c as u8;
-        arg[i] = d as u8;
-        to[i] = e as u8;
-        i += 1;
+    let resources = field::column(numbers, count, 0, 0, 5);
+    let froms = field::column(numbers, resources.lines, 1, 0, 7);
+    let acts = field::column(numbers, froms.lines, 2, 0, 3);
+    let args = field::column(numbers, acts.lines, 3, 0, 63);
+    let tos = field::column(numbers, args.lines, 4, 0, 7);
+    if tos.lines < count {
+        return refused(Refusal::Range, tos.lines + 2);
     }
+    let resource = resources.values;
+    let from = froms.values;
+    let act = acts.values;
+    let arg = args.values;
+    let to = tos.values;
     judged(Cell {
         count,
         resource,

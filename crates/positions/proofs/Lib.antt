@@ -1,8 +1,10 @@
--- The digits of a number, the parts of a sum, the state counts by line, the sizes of accepted records, the numbers of states
+-- The digits of a number, the parts of a sum, the state counts by line, what accepted records have, their sizes, the numbers of states
 -- and of places, and positions.
 pub mod Radix
-pub mod Sums
-mod Counts
-pub mod Sized
-pub mod Numbers
-pub mod Places
+pub mod PartSums
+mod StateCounts
+pub mod AcceptedRecords
+pub mod SizeBounds
+pub mod CheckedSizes
+pub mod StatePlaceNumbers
+pub mod PositionNumbers

@@ -2,3 +2,4 @@ pub mod Radix
 pub mod Sizes
 pub mod Position
 pub mod Rules
+pub mod Checked

@@ -4,12 +4,12 @@ use Prim.Native.Nat.{ℕ}
 use lib.ListN.{length, replicate}
 use Rattle.refusals.specs.declared.Verdict.{Verdict}
 use Rattle.refusals.specs.declared.Verdict.the-variants.{Accepted, Refused}
-use Rattle.refusals.specs.Verdict.{before}
+use Rattle.refusals.specs.Verdict.{firstRefusal}
 use Rattle.tables.specs.Lines.{valueLines}
 use Rattle.tables.specs.Table.{rule1, rule2, column}
 use Rattle.recipe.specs.declared.Recipe.{Recipe}
 use Rattle.recipe.specs.declared.RecipeReading.{RecipeReading}
-use Rattle.recipe.specs.Rules.{checkRecipe}
+use Rattle.recipe.specs.Rules.{recipeRules}
 
 -- "First line `point,kind,op,takes,gives,then,else`", in ASCII
 unfoldable pub recipeNames : List ℕ
@@ -32,7 +32,7 @@ recipeOf file =
 
 -- "Each of the two readers tries a rule over the whole file before the next rule."
 unfoldable pub judgeRecipe : List ℕ → Verdict
-judgeRecipe file = before (rule1 recipeNames file) (before (rule2 7 file) (checkRecipe (recipeOf file)))
+judgeRecipe file = firstRefusal (rule1 recipeNames file ∷ rule2 7 file ∷ recipeRules (recipeOf file))
 
 -- "a record of no lines"
 abbrev pub noRecipe : Recipe

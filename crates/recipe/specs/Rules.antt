@@ -1,20 +1,20 @@
 -- The rules on a recipe record, in the order of the refusal list. Each sees the first `count` lines alone.
 -- Assumes nothing.
 use mathlib.Core.Bool.{Bool, false, cond, not, _&&_, _||_}
-use mathlib.Core.List.{List}
+use mathlib.Core.List.{List, [], _∷_}
 use Prim.Native.Nat.{ℕ, zero, suc, _+_, _/_, _%_, _^_}
 use lib.ListN.{getD}
 use lib.Dec.{eqb, leb}
 use Rattle.refusals.specs.declared.Verdict.{Verdict}
 use Rattle.refusals.specs.declared.Refusal.the-variants.{Range, PointOrder, RepeatedPoint, UnusedField, NoParts, CommonPart, TargetPoint}
 use Rattle.refusals.specs.Search.{anyBelow, countBelow}
-use Rattle.refusals.specs.Verdict.{before, firstLine, rule3}
+use Rattle.refusals.specs.Verdict.{firstRefusal, firstLine, rule3}
 use Rattle.recipe.specs.declared.Recipe.{Recipe}
 
 -- "Point, then, else: 0 to 15; op 0 to 63; takes and gives 0 to 255; kind 0 end, 1 do, 2 test."
 unfoldable pub inRange : ℕ → ℕ → ℕ → ℕ → ℕ → ℕ → ℕ → Bool
 inRange point kind op takes gives then otherwise =
-    leb kind 2 && (leb point 15 && (leb op 63 && (leb takes 255 && (leb gives 255 && (leb then 15 && leb otherwise 15)))))
+    leb point 15 && (leb kind 2 && (leb op 63 && (leb takes 255 && (leb gives 255 && (leb then 15 && leb otherwise 15)))))
 
 -- line n has a number that leaves its range
 unfoldable pub leavesRange : List ℕ → List ℕ → List ℕ → List ℕ → List ℕ → List ℕ → List ℕ → ℕ → Bool
@@ -122,10 +122,13 @@ unfoldable pub rule12 : Recipe → Verdict
 rule12 r =
     firstLine TargetPoint (breaksTarget (pointCount (r .point) (r .count)) (r .kind) (r .then) (r .otherwise)) (r .count)
 
--- rules 7 to 12, "a rule over the whole file before the next rule": what a reader tries after the ranges
-unfoldable pub checkPoints : Recipe → Verdict
-checkPoints r = before (rule7 r) (before (rule8 r) (before (rule9 r) (before (rule10 r) (before (rule11 r) (rule12 r)))))
+-- what is tried of a recipe whose numbers are in range, in order
+unfoldable pub afterRange : Recipe → List Verdict
+afterRange r = rule7 r ∷ rule8 r ∷ rule9 r ∷ rule10 r ∷ rule11 r ∷ rule12 r ∷ []
 
 -- "check handed-in values anew from rule 3": a recipe record's rules, in order
+unfoldable pub recipeRules : Recipe → List Verdict
+recipeRules r = rule3 (r .count) ∷ rule4 r ∷ afterRange r
+
 unfoldable pub checkRecipe : Recipe → Verdict
-checkRecipe r = before (rule3 (r .count)) (before (rule4 r) (checkPoints r))
+checkRecipe r = firstRefusal (recipeRules r)

@@ -7,10 +7,11 @@ mod reader;
 mod targets;
 
 ghost use mathlib.Core.Path.{_≡_};
+ghost use mathlib.Core.List.{[], _∷_};
 ghost use Prim.Native.Nat.{_<_, _≤_};
-ghost use Rattle.refusals.specs.Verdict.{before};
+ghost use Rattle.refusals.specs.Verdict.{firstRefusal};
 ghost use Rattle.recipe.specs.Reader.{readRecipe};
-ghost use Rattle.recipe.specs.Rules.{rule4, rule7, rule8, rule9, rule10, rule11, rule12, checkPoints, checkRecipe};
+ghost use Rattle.recipe.specs.Rules.{rule4, rule7, rule8, rule9, rule10, rule11, rule12, afterRange, checkRecipe};
 use refusals::Refusal;
 use refusals::Verdict;
 use tables::Form;
@@ -46,7 +47,7 @@ fn check_ranges(recipe: Recipe) -> Verdict
 // Rules 7 and 8, on a record that passed rule 3.
 fn check_order(recipe: Recipe) -> Verdict
     requires { ⌜ recipe .count ≤ 64 ⌝ }
-    ensures { λ r. ⌜ r ≡ before (rule7 recipe) (rule8 recipe) ⌝ }
+    ensures { λ r. ⌜ r ≡ firstRefusal (rule7 recipe ∷ rule8 recipe ∷ []) ⌝ }
 {
     let count = recipe.count;
     let point = recipe.point;
@@ -63,7 +64,7 @@ fn check_order(recipe: Recipe) -> Verdict
 // Rules 9 and 10, on a record that passed rule 3.
 fn check_fields(recipe: Recipe) -> Verdict
     requires { ⌜ recipe .count ≤ 64 ⌝ }
-    ensures { λ r. ⌜ r ≡ before (rule9 recipe) (rule10 recipe) ⌝ }
+    ensures { λ r. ⌜ r ≡ firstRefusal (rule9 recipe ∷ rule10 recipe ∷ []) ⌝ }
 {
     let first = fields::first_unused(recipe);
     if first < recipe.count {
@@ -77,7 +78,7 @@ fn check_fields(recipe: Recipe) -> Verdict
 fn check_parts(recipe: Recipe) -> Verdict
     requires { ⌜ (0 < recipe .count) × (recipe .count ≤ 64) ⌝ }
     requires { ⌜ rule7 recipe ≡ Verdict.Accepted ⌝ }
-    ensures { λ r. ⌜ r ≡ before (rule11 recipe) (rule12 recipe) ⌝ }
+    ensures { λ r. ⌜ r ≡ firstRefusal (rule11 recipe ∷ rule12 recipe ∷ []) ⌝ }
 {
     let count = recipe.count;
     let point = recipe.point;
@@ -95,7 +96,7 @@ fn check_parts(recipe: Recipe) -> Verdict
 // Rules 7 to 12, on a record that passed rules 3 and 4.
 pub fn check_points(recipe: Recipe) -> Verdict
     requires { ⌜ (0 < recipe .count) × (recipe .count ≤ 64) ⌝ }
-    ensures { λ r. ⌜ r ≡ checkPoints recipe ⌝ }
+    ensures { λ r. ⌜ r ≡ firstRefusal (afterRange recipe) ⌝ }
 {
     let ordered = check_order(recipe);
     let Verdict::Accepted = ordered else {

@@ -5,63 +5,23 @@ ghost use Rattle.refusals.specs.Search.{firstBelow};
 ghost use Rattle.recipe.specs.Rules.{inRange, leavesRange};
 use crate::Recipe;
 
-// Whether the numbers of a line are each in its range; a reader asks before it stores them.
-pub fn in_range(
-    point: u32,
-    kind: u32,
-    op: u32,
-    takes: u32,
-    gives: u32,
-    then: u32,
-    otherwise: u32,
-) -> bool
+// Whether the numbers of a line are each in its range; a byte can't leave that of takes and gives.
+fn in_range(point: u8, kind: u8, op: u8, takes: u8, gives: u8, then: u8, otherwise: u8) -> bool
     ensures { λ r. ⌜ r ≡ inRange point kind op takes gives then otherwise ⌝ }
 {
-    match kind {
-        0 | 1 | 2 => {}
-        _ => {
-            return false;
-        }
-    }
     if 15 < point {
         return false;
     }
+    if 2 < kind {
+        return false;
+    }
     if 63 < op {
-        return false;
-    }
-    if 255 < takes {
-        return false;
-    }
-    if 255 < gives {
         return false;
     }
     if 15 < then {
         return false;
     }
     otherwise <= 15
-}
-
-// The same of the bytes of a record.
-fn bytes_in_range(
-    point: u8,
-    kind: u8,
-    op: u8,
-    takes: u8,
-    gives: u8,
-    then: u8,
-    otherwise: u8,
-) -> bool
-    ensures { λ r. ⌜ r ≡ inRange point kind op takes gives then otherwise ⌝ }
-{
-    in_range(
-        point as u32,
-        kind as u32,
-        op as u32,
-        takes as u32,
-        gives as u32,
-        then as u32,
-        otherwise as u32,
-    )
 }
 
 // The first line of which a number leaves its range, or the count.
@@ -71,7 +31,7 @@ pub fn first_out_of_range(recipe: Recipe) -> usize
 {
     let mut i = 0;
     while i < recipe.count {
-        if !bytes_in_range(
+        if !in_range(
             recipe.point[i],
             recipe.kind[i],
             recipe.op[i],

@@ -1,18 +1,18 @@
 // The numbers of a recipe file that passed rules 1 and 2, read into a record.
 ghost use mathlib.Core.Path.{_≡_};
-ghost use mathlib.Core.List.{List};
+ghost use mathlib.Core.List.{List, _∷_};
 ghost use Prim.Native.Nat.{ℕ, _<_, _≤_};
 ghost use lib.ListN.{length};
-ghost use Rattle.refusals.specs.Verdict.{before};
+ghost use Rattle.refusals.specs.Verdict.{firstRefusal};
 ghost use Rattle.tables.specs.Lines.{valueLines};
 ghost use Rattle.tables.specs.Reading.{Kept};
 ghost use Rattle.recipe.specs.Reader.{recipeOf, reading, noRecipe};
-ghost use Rattle.recipe.specs.Rules.{rule4, checkPoints, checkRecipe};
+ghost use Rattle.recipe.specs.Rules.{rule4, afterRange, checkRecipe};
 use crate::Recipe;
 use crate::RecipeReading;
-use crate::range;
 use refusals::Refusal;
 use refusals::Verdict;
+use tables::field;
 
 // The answer with a refusal: a record of no lines.
 pub fn refused(refusal: Refusal, line: usize) -> RecipeReading
@@ -36,7 +36,7 @@ pub fn refused(refusal: Refusal, line: usize) -> RecipeReading
 // The answer for a record that passed rule 4.
 fn judged(recipe: Recipe) -> RecipeReading
     requires { ⌜ (0 < recipe .count) × (recipe .count ≤ 64) ⌝ }
-    ensures { λ r. ⌜ r ≡ reading (checkPoints recipe) recipe ⌝ }
+    ensures { λ r. ⌜ r ≡ reading (firstRefusal (afterRange recipe)) recipe ⌝ }
 {
     match crate::check_points(recipe) {
         Verdict::Accepted => RecipeReading {
@@ -47,40 +47,28 @@ fn judged(recipe: Recipe) -> RecipeReading
     }
 }
 
-// Rule 4 and the rest, over the numbers that rule 2 kept: they are stored once they are in range.
+// Rule 4 and the rest, over the numbers that rule 2 kept: each field as far as those before it are in range.
 fn store_lines(numbers: &[u32], count: usize) -> RecipeReading
     requires { ⌜ (448 ≤ length (now numbers)) × (0 < count) × (count ≤ 64) ⌝ }
-    ensures { λ r. ⌜ ((file : List ℕ) → count ≡ length (valueLines file) → Kept 7 file count (now (numbers .entry)) → r ≡ reading (before (rule4 (recipeOf file)) (checkPoints (recipeOf file))) (recipeOf file)) ⌝ }
+    ensures { λ r. ⌜ ((file : List ℕ) → count ≡ length (valueLines file) → Kept 7 file count (now (numbers .entry)) → r ≡ reading (firstRefusal (rule4 (recipeOf file) ∷ afterRange (recipeOf file))) (recipeOf file)) ⌝ }
 {
-    let mut point = [0u8; 64];
-    let mut kind = [0u8; 64];
-    let mut op = [0u8; 64];
-    let mut takes = [0u8; 64];
-    let mut gives = [0u8; 64];
-    let mut then = [0u8; 64];
-    let mut otherwise = [0u8; 64];
-    let mut i = 0;
-    while i < count {
-        let at = i * 7;
-        let a = numbers[at];
-        let b = numbers[at + 1];
-        let c = numbers[at + 2];
-        let d = numbers[at + 3];
-        let e = numbers[at + 4];
-        let f = numbers[at + 5];
-        let g = numbers[at + 6];
-        if !range::in_range(a, b, c, d, e, f, g) {
-            return refused(Refusal::Range, i + 2);
-        }
-        point[i] = a as u8;
-        kind[i] = b as u8;
-        op[i] = c as u8;
-        takes[i] = d as u8;
-        gives[i] = e as u8;
-        then[i] = f as u8;
-        otherwise[i] = g as u8;
-        i += 1;
+    let points = field::column(numbers, count, 0, 0, 15);
+    let kinds = field::column(numbers, points.lines, 1, 0, 2);
+    let ops = field::column(numbers, kinds.lines, 2, 0, 63);
+    let taken = field::column(numbers, ops.lines, 3, 0, 255);
+    let given = field::column(numbers, taken.lines, 4, 0, 255);
+    let thens = field::column(numbers, given.lines, 5, 0, 15);
+    let others = field::column(numbers, thens.lines, 6, 0, 15);
+    if others.lines < count {
+        return refused(Refusal::Range, others.lines + 2);
     }
+    let point = points.values;
+    let kind = kinds.values;
+    let op = ops.values;
+    let takes = taken.values;
+    let gives = given.values;
+    let then = thens.values;
+    let otherwise = others.values;
     judged(Recipe {
         count,
         point,

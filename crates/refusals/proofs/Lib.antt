@@ -1,5 +1,6 @@
 -- The laws of the searches and of the verdicts, which the proofs of every crate above cite.
 pub mod Scan
-pub mod Listed
+pub mod TabulatedLists
 pub mod Verdicts
-pub mod Every
+pub mod Rules
+pub mod EveryBelow

@@ -1,14 +1,14 @@
 -- A search over the numbers below a bound, turn by turn: what a loop that counts up has shown, and what it shows next.
 -- Assumes nothing.
-use mathlib.Core.Path.{_≡_, refl, sym, subst}
+use mathlib.Core.Path.{_≡_, refl, sym, subst, _∙_}
 use mathlib.Core.Logic.{⊎-elim}
-use mathlib.Core.Bool.{Bool, true, false, cond, _||_}
+use mathlib.Core.Bool.{Bool, true, false, cond, not, _&&_, _||_}
 use Prim.Native.Nat.{ℕ, zero, suc, _+_, _<_, _≤_, max}
 use native.Mathlib.Nat.{le-of-suc-le-suc, eq-or-lt-of-le, not-suc-le-zero, le-trans, le-max-left, le-max-right, max-le, max-eq-left, max-eq-right}
 use native.Mathlib.Numerals.{add-one}
 use native.Mathlib.Omega.{arith}
 use lib.Dec.{eqb}
-use borrow.Author.Tests.{eq-eqb, ne-eqb}
+use borrow.Author.Tests.{eq-eqb, ne-eqb, eqb-true, eqb-false}
 use Rattle.refusals.specs.Search.{firstBelow, anyBelow, greatestBelow}
 
 module _ (f : ℕ → Bool) where
@@ -97,6 +97,33 @@ pub first-same : (f g : ℕ → Bool) (n : ℕ) → ((i : ℕ) → i < n → f i
 unfolding firstBelow
 first-same f g zero same = refl
 first-same f g (suc n) same = rw (same n (omega arith), first-same f g n (λ i low. same i (omega arith)))
+
+-- a search that goes on below what another found: the first number at which one of the two tests fails
+pub first-both : (f g : ℕ → Bool) (n : ℕ) → firstBelow (λ i. not (g i)) (firstBelow (λ i. not (f i)) n) ≡ firstBelow (λ i. not (f i && g i)) n
+unfolding firstBelow
+first-both f g zero = refl
+first-both f g (suc n) = go (eqb (fails n) n) refl (f n) refl (first-both f g n)
+  where
+    fails : ℕ → ℕ
+    fails = firstBelow (λ i. not (f i))
+
+    both : ℕ
+    both = firstBelow (λ i. not (f i && g i)) n
+
+    stays : (b : Bool) → eqb both n ≡ b → both ≡ cond (eqb both n) n both
+    stays true e = rw e (eqb-true both n e)
+    stays false e = rw e
+
+    go : (b : Bool) → eqb (fails n) n ≡ b → (c : Bool) → f n ≡ c → firstBelow (λ i. not (g i)) (fails n) ≡ both
+        → firstBelow (λ i. not (g i)) (cond (eqb (fails n) n) (cond (not (f n)) n (suc n)) (fails n)) ≡ cond (eqb both n) (cond (not (f n && g n)) n (suc n)) both
+    go true e true w found =
+        let here : firstBelow (λ i. not (g i)) n ≡ both = subst (λ (m : ℕ). firstBelow (λ i. not (g i)) m ≡ both) (eqb-true (fails n) n e) found in rw (e, w, here)
+    go true e false w found =
+        let here : firstBelow (λ i. not (g i)) n ≡ both = subst (λ (m : ℕ). firstBelow (λ i. not (g i)) m ≡ both) (eqb-true (fails n) n e) found in
+        rw (e, w) (here ∙ stays (eqb both n) refl)
+    go false e c w found =
+        let ne : fails n ≡ n → ⊥ = eqb-false (fails n) n e in
+        rw (e, ne-eqb both n (λ (z : both ≡ n). omega (arith, found, first-le (λ i. not (g i)) (fails n), first-le (λ i. not (f i)) n))) found
 
 module _ (f : ℕ → ℕ) where
   pub greatest-more : (i : ℕ) → greatestBelow f i ≤ f i → greatestBelow f (i + 1) ≡ f i

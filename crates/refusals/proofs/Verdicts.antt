@@ -1,15 +1,18 @@
--- Rules tried one after another: what their verdict is, and what one that accepts says of what was judged. Assumes nothing.
-use mathlib.Core.Path.{_≡_, refl, sym, ap, _∙_}
+-- The verdicts of rules: what they are, and what one that accepts says of what was judged. Assumes nothing.
+use mathlib.Core.Path.{_≡_, refl}
 use mathlib.Core.Bool.{Bool, true, false, cond, _&&_, _||_}
+use mathlib.Core.List.{List, _∷_}
 use Prim.Native.Nat.{ℕ, _+_, _<_, _≤_}
 use native.Mathlib.Omega.{arith}
 use lib.Dec.{eqb, ltb}
 use borrow.Author.Tests.{eqb-false, lt-ltb, le-ltb, ltb-false}
 use Rattle.refusals.specs.declared.Refusal.{Refusal}
+use Rattle.refusals.specs.declared.Refusal.the-variants.{Names, Form, LineCount, Range, ResourceGap, NoPartner, PointOrder, RepeatedPoint, UnusedField, NoParts, CommonPart, TargetPoint, TooManyPositions, TooShort, NotRealisable, RunRange, OutcomeRange, NotOpen, AtEnd, LimitResource, FullCell, UnreachedPoint, RejectLine, Chapters, RunNumber}
 use Rattle.refusals.specs.declared.Verdict.{Verdict}
 use Rattle.refusals.specs.declared.Verdict.the-variants.{Accepted, Refused}
 use Rattle.refusals.specs.Search.{firstBelow}
-use Rattle.refusals.specs.Verdict.{before, lineVerdict, firstLine, noLine, rule3}
+use Rattle.refusals.specs.Refusal.{numberOf}
+use Rattle.refusals.specs.Verdict.{firstRefusal, lineVerdict, firstLine, noLine, rule3, refusalIn}
 use Rattle.refusals.proofs.Scan.{first-le, first-hit, first-none}
 
 pub and-left : (a b : Bool) → (a && b) ≡ true → a ≡ true
@@ -40,16 +43,18 @@ none-breaks refusal breaks count e n low =
     let past : count ≤ firstBelow breaks count = ltb-false _ _ (test-fails _ _ _ e) in
     first-none breaks n count low (omega (arith, first-le breaks count))
 
--- two rules in a row accept: the first does, and the second does
-pub first-accepts : (v w : Verdict) → before v w ≡ Accepted → v ≡ Accepted
-unfolding before
-first-accepts Accepted w e = refl
-first-accepts (Refused refusal line) w e = e
+-- a rule that names no line, by its test
+pub noLine-broken : (refusal : Refusal) (b : Bool) → b ≡ true → noLine refusal b ≡ Refused refusal 0
+unfolding noLine
+noLine-broken refusal b e = rw e
 
-pub next-accepts : (v w : Verdict) → before v w ≡ Accepted → w ≡ Accepted
-unfolding before
-next-accepts Accepted w e = e
-next-accepts (Refused refusal line) w e = cc
+pub noLine-kept : (refusal : Refusal) (b : Bool) → b ≡ false → noLine refusal b ≡ Accepted
+unfolding noLine
+noLine-kept refusal b e = rw e
+
+pub noLine-accepts : (refusal : Refusal) (b : Bool) → noLine refusal b ≡ Accepted → b ≡ false
+unfolding noLine
+noLine-accepts refusal b e = test-fails b refusal 0 e
 
 -- what rule 3 leaves: "1 to 64 value lines"
 pub record CountInRange (count : ℕ) : Type 0 where
@@ -57,9 +62,9 @@ pub record CountInRange (count : ℕ) : Type 0 where
   pub most : count ≤ 64
 
 pub count-in-range : (count : ℕ) → rule3 count ≡ Accepted → CountInRange count
-unfolding rule3 noLine
+unfolding rule3
 count-in-range count e =
-    let no : (eqb count 0 || ltb 64 count) ≡ false = test-fails _ _ _ e in
+    let no : (eqb count 0 || ltb 64 count) ≡ false = noLine-accepts _ _ e in
     let some : count ≡ 0 → ⊥ = eqb-false count 0 (search or-left) in
     record { some = omega arith; most = ltb-false 64 count (search or-right) }
 
@@ -73,26 +78,50 @@ module _ (refusal : Refusal) (breaks : ℕ → Bool) (count : ℕ) where
   unfolding firstLine lineVerdict
   line-none none = rw (none, le-ltb count count (omega arith))
 
--- a rule that refuses is the verdict
-pub refuses : {v w : Verdict} (rest : Verdict) {refusal : Refusal} {line : ℕ} → v ≡ w → v ≡ Refused refusal line → v ≡ before w rest
-unfolding before
-refuses rest e told = told ∙ ap (λ (x : Verdict). before x rest) (sym told ∙ e)
-
--- one that accepts leaves it to the next
-pub accepts : {v w x rest : Verdict} → v ≡ w → v ≡ Accepted → x ≡ rest → x ≡ before w rest
-unfolding before
-accepts {rest = rest} e told next = next ∙ ap (λ (y : Verdict). before y rest) (sym told ∙ e)
-
--- the same of a rule on each line, of which `first` is the first that breaks it
+-- a rule on each line, of which `first` is the first that breaks it: by itself, and before others
 module _ (refusal : Refusal) (f : ℕ → Bool) (count first : ℕ) (found : first ≡ firstBelow f count) where
   pub line : {v : Verdict} → v ≡ lineVerdict refusal first count → v ≡ firstLine refusal f count
   unfolding firstLine
   line e = rw (← found) e
 
-  pub broken : (rest : Verdict) → first < count → Refused refusal (first + 2) ≡ before (firstLine refusal f count) rest
-  unfolding before firstLine lineVerdict
+  pub broken : (rest : List Verdict) → first < count → Refused refusal (first + 2) ≡ firstRefusal (firstLine refusal f count ∷ rest)
+  unfolding firstRefusal firstLine lineVerdict
   broken rest low = rw (← found, lt-ltb first count low)
 
-  pub kept : {v rest : Verdict} → count ≤ first → v ≡ rest → v ≡ before (firstLine refusal f count) rest
-  unfolding before firstLine lineVerdict
-  kept high next = rw (← found, le-ltb first count high) next
+  pub kept : {v : Verdict} (rest : List Verdict) → count ≤ first → v ≡ firstRefusal rest → v ≡ firstRefusal (firstLine refusal f count ∷ rest)
+  unfolding firstRefusal firstLine lineVerdict
+  kept rest high next = rw (← found, le-ltb first count high) next
+
+-- no refusal has the number 0
+number-some : (refusal : Refusal) → 1 ≤ numberOf refusal
+number-some Names = omega arith
+number-some Form = omega arith
+number-some LineCount = omega arith
+number-some Range = omega arith
+number-some ResourceGap = omega arith
+number-some NoPartner = omega arith
+number-some PointOrder = omega arith
+number-some RepeatedPoint = omega arith
+number-some UnusedField = omega arith
+number-some NoParts = omega arith
+number-some CommonPart = omega arith
+number-some TargetPoint = omega arith
+number-some TooManyPositions = omega arith
+number-some TooShort = omega arith
+number-some NotRealisable = omega arith
+number-some RunRange = omega arith
+number-some OutcomeRange = omega arith
+number-some NotOpen = omega arith
+number-some AtEnd = omega arith
+number-some LimitResource = omega arith
+number-some FullCell = omega arith
+number-some UnreachedPoint = omega arith
+number-some RejectLine = omega arith
+number-some Chapters = omega arith
+number-some RunNumber = omega arith
+
+-- so a verdict whose number is 0 accepts
+pub zero-accepts : (v : Verdict) → refusalIn v ≡ 0 → v ≡ Accepted
+unfolding refusalIn
+zero-accepts Accepted none = refl
+zero-accepts (Refused refusal line) none = absurd (omega (arith, number-some refusal))

@@ -1,7 +1,8 @@
--- "Refusal list, in checking order": the paper's number of each case. Assumes nothing.
+-- "Refusal list, in checking order": the paper's number of each case, and the numbers that the answers of document 02's requests
+-- have. Assumes nothing.
 use Prim.Native.Nat.{ℕ}
 use Rattle.refusals.specs.declared.Refusal.{Refusal}
-use Rattle.refusals.specs.declared.Refusal.the-variants.{Names, Form, LineCount, Range, ResourceGap, NoPartner, PointOrder, RepeatedPoint, UnusedField, NoParts, CommonPart, TargetPoint, TooManyPositions, TooShort, NotRealisable, RunRange, OutcomeRange, NotOpen, AtEnd}
+use Rattle.refusals.specs.declared.Refusal.the-variants.{Names, Form, LineCount, Range, ResourceGap, NoPartner, PointOrder, RepeatedPoint, UnusedField, NoParts, CommonPart, TargetPoint, TooManyPositions, TooShort, NotRealisable, RunRange, OutcomeRange, NotOpen, AtEnd, LimitResource, FullCell, UnreachedPoint, RejectLine, Chapters, RunNumber}
 
 abbrev pub numberOf : Refusal → ℕ
 numberOf Names = 1
@@ -23,3 +24,9 @@ numberOf RunRange = 16
 numberOf OutcomeRange = 17
 numberOf NotOpen = 18
 numberOf AtEnd = 19
+numberOf LimitResource = 20
+numberOf FullCell = 21
+numberOf UnreachedPoint = 22
+numberOf RejectLine = 23
+numberOf Chapters = 24
+numberOf RunNumber = 25

@@ -1,5 +1,6 @@
 -- The verdicts of rules, tried one after another. Assumes nothing.
 use mathlib.Core.Bool.{Bool, cond, _||_}
+use mathlib.Core.List.{List, [], _∷_}
 use Prim.Native.Nat.{ℕ, _+_}
 use lib.Dec.{eqb, ltb}
 use Rattle.refusals.specs.declared.Refusal.{Refusal}
@@ -9,10 +10,11 @@ use Rattle.refusals.specs.declared.Verdict.the-variants.{Accepted, Refus
 use Rattle.refusals.specs.Refusal.{numberOf}
 use Rattle.refusals.specs.Search.{firstBelow}
 
--- "Each of the two readers tries a rule over the whole file before the next rule."
-unfoldable pub before : Verdict → Verdict → Verdict
-before Accepted next = next
-before (Refused refusal line) next = Refused refusal line
+-- "Each of the two readers tries a rule over the whole file before the next rule.": the first verdict of the list that refuses
+unfoldable pub firstRefusal : List Verdict → Verdict
+firstRefusal [] = Accepted
+firstRefusal (Accepted ∷ rest) = firstRefusal rest
+firstRefusal (Refused refusal line ∷ rest) = Refused refusal line
 
 -- "A file refusal carries the first breaking line (names line 1, so value line n is n+2)":
 -- the verdict of a rule whose first breaking line is `first`, of `count` lines

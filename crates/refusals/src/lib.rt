@@ -1,10 +1,10 @@
-// The refusal list of document 01, and the verdict of a rule on a file or a record.
+// The refusal list of documents 01 and 02, and the verdict of a rule on a file or a record.
 ghost use mathlib.Core.Path.{_≡_};
 ghost use Prim.Native.Nat.{_≤_};
 ghost use Rattle.refusals.specs.Refusal.{numberOf};
 ghost use Rattle.refusals.specs.Verdict.{lineVerdict, rule3};
 
-// One case for each rule, in checking order.
+// One case for each rule: those of document 01 in checking order, then those of the requests of document 02 by number.
 pub enum Refusal {
     Names,
     Form,
@@ -25,6 +25,18 @@ pub enum Refusal {
     OutcomeRange,
     NotOpen,
     AtEnd,
+    // [1] Stations have limits: a limit's resource isn't below R, or the lines don't rise by resource.
+    LimitResource,
+    // [2] Which process to install: the cell already has 64 lines.
+    FullCell,
+    // [4] Points that nothing leads to: no chain of `then` and `else` from point 0 reaches a point.
+    UnreachedPoint,
+    // [6] Reject gates: an act 4 line has no act 1 line of its resource, from and arg, or is the second with these.
+    RejectLine,
+    // [7] Recipes in chapters: none or more than 8, or an earlier one begins at an end.
+    Chapters,
+    // [13] One panel for eight runs: a run number of 8 or more.
+    RunNumber,
 }
 
 // What a rule says: nothing against it, or the refusal with the line that it names (0 for none).
@@ -33,7 +45,7 @@ pub enum Verdict {
     Refused(Refusal, usize),
 }
 
-// The number by which document 01 lists the refusal.
+// The number by which documents 01 and 02 list the refusal.
 pub fn number(refusal: Refusal) -> u8
     ensures { λ r. ⌜ r ≡ numberOf refusal ⌝ }
 {
@@ -57,6 +69,12 @@ pub fn number(refusal: Refusal) -> u8
         Refusal::OutcomeRange => 17,
         Refusal::NotOpen => 18,
         Refusal::AtEnd => 19,
+        Refusal::LimitResource => 20,
+        Refusal::FullCell => 21,
+        Refusal::UnreachedPoint => 22,
+        Refusal::RejectLine => 23,
+        Refusal::Chapters => 24,
+        Refusal::RunNumber => 25,
     }
 }
 

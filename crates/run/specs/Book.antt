@@ -2,7 +2,6 @@
 use mathlib.Core.Bool.{Bool, cond, _&&_}
 use mathlib.Core.List.{List, [], _∷_}
 use Prim.Native.Nat.{ℕ, zero, suc, _+_}
-use lib.ListN.{getD}
 use lib.Dec.{eqb, ltb}
 use Rattle.refusals.specs.Refusal.{numberOf}
 use Rattle.refusals.specs.declared.Refusal.the-variants.{OutcomeRange, NotOpen, AtEnd}
@@ -10,8 +9,7 @@ use Rattle.refusals.specs.Search.{tabulate}
 use Rattle.cell.specs.declared.Cell.{Cell}
 use Rattle.recipe.specs.declared.Recipe.{Recipe}
 use Rattle.positions.specs.declared.Configuration.{Configuration}
-use Rattle.positions.specs.Sizes.{sizesOf}
-use Rattle.positions.specs.Position.{positionOf}
+use Rattle.positions.specs.Position.{entryOf}
 use Rattle.steps.specs.Lines.{resourceOf, toOf, stateOf, placeOf, kindOf, thenOf, elseOf}
 use Rattle.steps.specs.Carry.{placed}
 use Rattle.steps.specs.Entry.{entryKind, letter, lettersUsed, isFormed, mayBeTaken, endEntry}
@@ -42,7 +40,7 @@ Mover = List ℕ → Book → ℕ
 
 -- "Its move is the entry at its own position."
 unfoldable pub byTable : Cell → Recipe → List ℕ → Mover
-byTable c r table accepted b = getD table (positionOf (sizesOf c r) (b .point) (b .configuration)) 0
+byTable c r table accepted b = entryOf c r table (b .point) (b .configuration)
 
 -- "A rule choosing single moves names one for every list of outcomes accepted so far, the empty list too. Under a rule the
 -- book has the rule's move in place of the entry"

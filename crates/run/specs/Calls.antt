@@ -1,20 +1,21 @@
 -- "The run": the calls on a run, with the rules that each tries. Assumes nothing.
 use mathlib.Core.Bool.{cond, not}
-use mathlib.Core.List.{List}
+use mathlib.Core.List.{List, [], _∷_, _++_}
 use Prim.Native.Nat.{ℕ}
 use lib.ListN.{length, getD}
 use lib.Dec.{eqb, ltb}
 use Rattle.refusals.specs.declared.Verdict.{Verdict}
 use Rattle.refusals.specs.declared.Verdict.the-variants.{Accepted, Refused}
 use Rattle.refusals.specs.declared.Refusal.the-variants.{OutcomeRange, NotOpen, AtEnd}
-use Rattle.refusals.specs.Verdict.{before, noLine}
+use Rattle.refusals.specs.Verdict.{firstRefusal, noLine}
 use Rattle.cell.specs.declared.Cell.{Cell}
 use Rattle.recipe.specs.declared.Recipe.{Recipe}
+use Rattle.positions.specs.declared.Sizes.{Sizes}
 use Rattle.positions.specs.Sizes.{sizesOf}
-use Rattle.positions.specs.Position.{start, positionOf}
-use Rattle.positions.specs.Rules.{checkRecords, rule13, rule14, rule16}
+use Rattle.positions.specs.Position.{start, entryOf}
+use Rattle.positions.specs.Rules.{recordRules, rule13, rule14, rule16}
 use Rattle.steps.specs.Lines.{kindOf}
-use Rattle.steps.specs.Single.{opens, makes, leadsTo}
+use Rattle.steps.specs.Effect.{opens, makes, leadsTo}
 use Rattle.run.specs.declared.Run.{Run}
 use Rattle.run.specs.declared.Move.{Move}
 use Rattle.run.specs.declared.Report.{Report}
@@ -25,19 +26,24 @@ unfoldable pub freshRun : Run
 freshRun = record { point = 0; configuration = start }
 
 -- "the entry at the run's position"
-unfoldable pub entryAt : Cell → Recipe → List ℕ → Run → ℕ
-entryAt c r table run = getD table (positionOf (sizesOf c r) (run .point) (run .configuration)) 0
+abbrev pub entryAt : Cell → Recipe → List ℕ → Run → ℕ
+entryAt c r table run = entryOf c r table (run .point) (run .configuration)
 
--- "check handed-in values anew from rule 3, cell first: all of its rules, then the recipe's, then 13 on", without a table
-unfoldable pub checkRun : Cell → Recipe → Run → Verdict
-checkRun c r run =
-    before (checkRecords c r) (before (rule13 (sizesOf c r)) (rule16 (sizesOf c r) (run .point) (run .configuration)))
+-- what is tried of a run of accepted records, without a table
+unfoldable pub runRules : Sizes → Run → List Verdict
+runRules z run = rule13 z ∷ rule16 z (run .point) (run .configuration) ∷ []
 
--- and with one
-unfoldable pub checkTable : Cell → Recipe → List ℕ → Run → Verdict
-checkTable c r table run =
-    before (checkRecords c r)
-    (before (rule13 (sizesOf c r)) (before (rule14 (sizesOf c r) (length table)) (rule16 (sizesOf c r) (run .point) (run .configuration))))
+-- and with one of so many entries
+unfoldable pub tableRules : Sizes → ℕ → Run → List Verdict
+tableRules z entries run = rule13 z ∷ rule14 z entries ∷ rule16 z (run .point) (run .configuration) ∷ []
+
+-- "check handed-in values anew from rule 3, cell first: all of its rules, then the recipe's, then 13 on": a place call's rules
+unfoldable pub placeRules : Cell → Recipe → Run → List Verdict
+placeRules c r run = recordRules c r ++ runRules (sizesOf c r) run
+
+-- the rules of a call with a table, before the entry is looked at
+unfoldable pub entryRules : Cell → Recipe → List ℕ → Run → List Verdict
+entryRules c r table run = recordRules c r ++ tableRules (sizesOf c r) (length table) run
 
 -- "17. Report: outcome above 1."
 unfoldable pub rule17 : ℕ → Verdict
@@ -51,6 +57,14 @@ rule18 c r table run = noLine NotOpen (not (opens c r (run .point) (run .configu
 unfoldable pub rule19 : Recipe → Run → Verdict
 rule19 r run = noLine AtEnd (eqb (kindOf r (run .point)) 0)
 
+-- a next-move call's rules
+unfoldable pub moveRules : Cell → Recipe → List ℕ → Run → List Verdict
+moveRules c r table run = entryRules c r table run ++ (rule18 c r table run ∷ [])
+
+-- a report's
+unfoldable pub reportRules : Cell → Recipe → List ℕ → Run → ℕ → List Verdict
+reportRules c r table run outcome = entryRules c r table run ++ (rule17 outcome ∷ rule18 c r table run ∷ rule19 r run ∷ [])
+
 -- "a refused next-move returns entry 0"
 unfoldable pub moveAnswer : Verdict → ℕ → Move
 moveAnswer Accepted entry = record { verdict = Accepted; entry = entry }
@@ -58,18 +72,18 @@ moveAnswer (Refused refusal line) entry = record { verdict = Refused refusal lin
 
 -- the entry at the run's position, by the rules up to 16
 unfoldable pub findEntry : Cell → Recipe → List ℕ → Run → Move
-findEntry c r table run = moveAnswer (checkTable c r table run) (entryAt c r table run)
+findEntry c r table run = moveAnswer (firstRefusal (entryRules c r table run)) (entryAt c r table run)
 
 -- "The next-move call gives the entry at the run's position."
 unfoldable pub nextMove : Cell → Recipe → List ℕ → Run → Move
-nextMove c r table run = moveAnswer (before (checkTable c r table run) (rule18 c r table run)) (entryAt c r table run)
+nextMove c r table run = moveAnswer (firstRefusal (moveRules c r table run)) (entryAt c r table run)
 
 -- "it makes that move; a carried do goes to `then`; a test goes to `then` on outcome 1, to `else` on 0"
 unfoldable pub nextRun : Cell → Recipe → List ℕ → Run → ℕ → Run
 nextRun c r table run outcome =
     record {
       point = leadsTo r (run .point) (entryAt c r table run) outcome;
-      configuration = makes c r (run .point) (run .configuration) (entryAt c r table run);
+      configuration = makes c r (run .point) (run .configuration) (entryAt c r table run) outcome;
     }
 
 -- "a refused report its own run"
@@ -80,10 +94,7 @@ reportAnswer (Refused refusal line) run next = record { verdict = Refused refusa
 -- "A report takes a run and gives the next run"
 unfoldable pub reportOf : Cell → Recipe → List ℕ → Run → ℕ → Report
 reportOf c r table run outcome =
-    reportAnswer
-    (before (checkTable c r table run) (before (rule17 outcome) (before (rule18 c r table run) (rule19 r run))))
-    run
-    (nextRun c r table run outcome)
+    reportAnswer (firstRefusal (reportRules c r table run outcome)) run (nextRun c r table run outcome)
 
 -- "a refused place call 255"
 unfoldable pub placeAnswer : Verdict → ℕ → Place
@@ -93,4 +104,4 @@ placeAnswer (Refused refusal line) place = record { verdict = Refused refusal li
 -- "A place call has no table and stops after rule 16; it gives a part's place, or 255 for a part number of P or more."
 unfoldable pub placeOf : Cell → Recipe → Run → ℕ → Place
 placeOf c r run part =
-    placeAnswer (checkRun c r run) (cond (ltb part (sizesOf c r .parts)) (getD (run .configuration .place) part 0) 255)
+    placeAnswer (firstRefusal (placeRules c r run)) (cond (ltb part (sizesOf c r .parts)) (getD (run .configuration .place) part 0) 255)

@@ -1,10 +1,9 @@
 // The run: a point and a configuration that a stored table leads through a recipe.
 ghost use mathlib.Core.Path.{_≡_};
 ghost use Rattle.refusals.specs.declared.Verdict.the-variants.{Refused};
-ghost use Rattle.refusals.specs.Verdict.{before};
+ghost use Rattle.refusals.specs.Verdict.{firstRefusal};
 ghost use Rattle.positions.specs.Sizes.{Fitting};
-ghost use Rattle.positions.specs.Rules.{rule13, rule14, rule16};
-ghost use Rattle.run.specs.Calls.{freshRun, findEntry, nextMove, reportOf, placeOf};
+ghost use Rattle.run.specs.Calls.{freshRun, runRules, tableRules, findEntry, nextMove, reportOf, placeOf};
 ghost use Rattle.run.specs.Record.{Stored};
 use cell::Cell;
 use positions::Configuration;
@@ -51,7 +50,7 @@ fn refused(run: Run, refusal: Refusal) -> Report
 // Rules 13 and 16.
 fn check_run(sizes: Sizes, run: Run) -> Verdict
     requires { ⌜ Fitting sizes ⌝ }
-    ensures { λ r. ⌜ r ≡ before (rule13 sizes) (rule16 sizes (run .point) (run .configuration)) ⌝ }
+    ensures { λ r. ⌜ r ≡ firstRefusal (runRules sizes run) ⌝ }
 {
     let checked = positions::check_size(sizes);
     let Verdict::Accepted = checked else {
@@ -66,7 +65,7 @@ fn check_run(sizes: Sizes, run: Run) -> Verdict
 // Rules 13, 14 and 16, for a table of the length.
 fn check_table(sizes: Sizes, length: usize, run: Run) -> Verdict
     requires { ⌜ Fitting sizes ⌝ }
-    ensures { λ r. ⌜ r ≡ before (rule13 sizes) (before (rule14 sizes length) (rule16 sizes (run .point) (run .configuration))) ⌝ }
+    ensures { λ r. ⌜ r ≡ firstRefusal (tableRules sizes length run) ⌝ }
 {
     let checked = positions::check_size(sizes);
     let Verdict::Accepted = checked else {

@@ -1,27 +1,27 @@
--- The method over any machine (Machine, Lost, Closed, Stages) and the cell and the recipe as one (Instance);
--- joint steps part by part and as single moves (Paired, Parted, PartedCarries, Singles, Split, Same); what the book does
--- (Booked), closed tables (Promised) and reports of the second form (Recorded), rules (Ruling, TableRule); certificates that the checker computes (Numbered,
--- Listing, Staged, Certified, Tabled).
+-- The method over any machine (Machine, LostNeverHeld, ClosedSet, Stages) and the cell and the recipe as one (CellMachine);
+-- joint steps part by part and as single moves (PortPairs, StepInParts, CarryInParts, SinglePaths, StepIsPath, JointIsSingle);
+-- what the book does (BookBySingles), closed tables (ClosedTablePromises) and reports of the second form (RecordPromises),
+-- rules (LostBreaksRules, TableRule); certificates that the checker computes (NumberedPositions, StageTest, StageListSound,
+-- ClosedTableTest).
 pub mod Machine
-pub mod Lost
-pub mod Closed
+pub mod LostNeverHeld
+pub mod ClosedSet
 pub mod Stages
-pub mod Instance
-pub mod Paired
-pub mod Parted
-pub mod PartedCarries
-pub mod Singles
-pub mod Split
-pub mod Same
-pub mod Booked
-pub mod Promised
-pub mod Recorded
-pub mod Ruling
+pub mod CellMachine
+pub mod PortPairs
+pub mod StepInParts
+pub mod CarryInParts
+pub mod SinglePaths
+pub mod StepIsPath
+pub mod JointIsSingle
+pub mod BookBySingles
+pub mod ClosedTablePromises
+pub mod RecordPromises
+pub mod LostBreaksRules
 pub mod TableRule
-pub mod Played
-pub mod Planning
-pub mod Numbered
-pub mod Listing
-pub mod Staged
-pub mod Certified
-pub mod Tabled
+pub mod SimulationByMoves
+pub mod ClosedTableIsPlan
+pub mod NumberedPositions
+pub mod StageTest
+pub mod StageListSound
+pub mod ClosedTableTest

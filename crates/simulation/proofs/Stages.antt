@@ -5,8 +5,9 @@ use mathlib.Core.Path.{_≡_}
 use mathlib.Core.Bool.{Bool, cond}
 use Prim.Native.Nat.{ℕ, zero, suc, _<_, _≤_}
 use native.Mathlib.Omega.{arith}
-use Rattle.simulation.proofs.Machine.{finish, quiet, carried, Machine, goes, Laws, Way, here, then, Lost, lost}
-use Rattle.simulation.proofs.Lost.{way-valid}
+use Rattle.steps.specs.Effect.{silent, carried}
+use Rattle.simulation.proofs.Machine.{finish, Machine, goes, Laws, Way, here, then, Lost, lost}
+use Rattle.simulation.proofs.LostNeverHeld.{way-valid}
 
 -- an outcome at which a carry leads to a stage above 0 and below n
 pub record Falls (𝓒 : Machine) (stage : 𝓒 .Point → 𝓒 .Conf → ℕ) (p : 𝓒 .Point) (d e : 𝓒 .Conf) (n : ℕ) : Type 0 where
@@ -16,11 +17,11 @@ pub record Falls (𝓒 : Machine) (stage : 𝓒 .Point → 𝓒 .Conf → ℕ) (
 
 pub record Stages (𝓒 : Machine) (stage : 𝓒 .Point → 𝓒 .Conf → ℕ) : Type 0 where
   pub going : (p : 𝓒 .Point) (a : 𝓒 .Conf) → 𝓒 .Valid p a → 0 < stage p a → 𝓒 .kind p ≡ finish → ⊥
-  pub silent :
+  pub quiet :
       (p : 𝓒 .Point) (a b : 𝓒 .Conf) (m : 𝓒 .Move)
       → 𝓒 .Valid p a
       → 0 < stage p a
-      → 𝓒 .effect p a m ≡ quiet b
+      → 𝓒 .effect p a m ≡ silent b
       → (0 < stage p b) × (stage p b ≤ stage p a)
   pub carry :
       (p : 𝓒 .Point) (a d e : 𝓒 .Conf) (m : 𝓒 .Move)
@@ -34,7 +35,7 @@ module _ {𝓒 : Machine} {stage : 𝓒 .Point → 𝓒 .Conf → ℕ} (L : Laws
   way-staged v h (here e) = rw e (h, omega arith)
   way-staged v h (then m w e) =
       let i = way-staged v h w in
-      let j = G .silent _ _ _ m (way-valid L v w) (i .0) e in
+      let j = G .quiet _ _ _ m (way-valid L v w) (i .0) e in
       (j .0, omega arith)
 
   way-falls :

@@ -1,22 +1,29 @@
--- What the loops keep (Digits, Turns, Opened, Results), a point's lines (PointLines), and the laws that the crates above
--- cite: single moves are joint steps (Joins, Afterwards, with Chosen, Ready, Ports, Quiet and Carried below them), such
--- joint steps have entries (Entries, CarryEntries, with Letters and Agreeing below them), silent moves do not depend on the
--- point (Anywhere), and moves stay in range (Stays).
-mod Digits
-mod Turns
-mod Opened
-mod Results
+-- What the loops keep (LetterDigits, LoopTurns, EntryTests, MadeConfiguration), a point's lines (PointLines), and the laws that
+-- the crates above cite: single moves are joint steps (OpenSteps, SingleMakesJoint, with OnlyLines, ReadyLines, PortCounts,
+-- SilentLines and CarryLines below them), such joint steps have entries (SilentEntries, CarryEntries, with Letters and
+-- EqualChoices below them), what a move does by cases and by its lines alone (Effects, SingleEffects, SingleMoves, EntryForms),
+-- silent moves do not depend on the point (OpenByKind), the code makes what the entry makes (MadeByKind), and moves stay in range
+-- (MovesStayInRange).
+mod LetterDigits
+mod LoopTurns
+mod EntryTests
+pub mod MadeConfiguration
+mod MadeByKind
 pub mod PointLines
-pub mod Chosen
-pub mod Ready
-pub mod Ports
-pub mod Quiet
-pub mod Carried
-pub mod Joins
-pub mod Afterwards
+pub mod OnlyLines
+pub mod ReadyLines
+pub mod PortCounts
+pub mod SilentLines
+pub mod CarryLines
+pub mod OpenSteps
+pub mod SingleMakesJoint
+pub mod Effects
+pub mod SingleEffects
 pub mod Letters
-pub mod Agreeing
-pub mod Entries
+pub mod EntryForms
+pub mod SingleMoves
+pub mod EqualChoices
+pub mod SilentEntries
 pub mod CarryEntries
-pub mod Anywhere
-pub mod Stays
+pub mod OpenByKind
+pub mod MovesStayInRange

@@ -2,4 +2,5 @@ pub mod Lines
 pub mod Joint
 pub mod Carry
 pub mod Entry
+pub mod Effect
 pub mod Single

@@ -1,10 +1,10 @@
 -- The laws of lines, numbers and rows.
-pub mod Pieces
-mod Leading
-mod Names
-pub mod Walk
-mod Rows
-mod Fields
-pub mod Judged
-pub mod Values
+pub mod TextPieces
+mod LeadingDigits
+mod NamesLine
+pub mod LineWalk
+mod NumberLine
+mod LineFields
+pub mod ValueLines
+pub mod KeptNumbers
 pub mod Columns

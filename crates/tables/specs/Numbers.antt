@@ -1,7 +1,7 @@
 -- "decimal numbers, parted by commas". Assumes nothing.
 use mathlib.Core.Bool.{Bool, true, not, _&&_, _||_}
 use mathlib.Core.List.{List, [], _∷_, map}
-use Prim.Native.Nat.{ℕ, zero, _+_, _-_, _*_}
+use Prim.Native.Nat.{ℕ, _+_, _-_, _*_}
 use lib.ListN.{length, getD}
 use lib.Dec.{eqb, leb}
 use Rattle.tables.specs.Lines.{parted}

@@ -1,14 +1,16 @@
 -- What the reader's own steps find: a number and a line at the start of a text, the next line, what rule 2 keeps. Only the
 -- contracts of these steps cite it; what a reader returns is defined without it. Assumes nothing.
 use mathlib.Core.Path.{_≡_}
-use mathlib.Core.Bool.{Bool, cond, _&&_}
-use mathlib.Core.List.{List, [], _∷_}
+use mathlib.Core.Bool.{Bool, cond, not, _&&_}
+use mathlib.Core.List.{List, [], _∷_, _++_}
 use Prim.Native.Nat.{ℕ, suc, _+_, _*_, _<_, _≤_}
 use lib.ListN.{length, getD, take, drop, replicate}
 use lib.Seq.{sets}
-use lib.Dec.{eqb, ltb}
+use lib.Dec.{eqb, ltb, leb}
+use Rattle.refusals.specs.Search.{firstBelow, tabulate}
 use Rattle.tables.specs.declared.Number.{Number}
 use Rattle.tables.specs.declared.Line.{Line}
+use Rattle.tables.specs.declared.Column.{Column}
 use Rattle.tables.specs.declared.Form.{Form}
 use Rattle.tables.specs.declared.Form.the-variants.{Whole, Broken}
 use Rattle.tables.specs.declared.Span.{Span}
@@ -85,3 +87,17 @@ pub record Kept (k : ℕ) (file : List ℕ) (count : ℕ) (store : List ℕ) : T
 pub record Checked (k : ℕ) (file : List ℕ) (form : Form) (store : List ℕ) : Type 0 where
   pub form-is : form ≡ formOf k file
   pub kept : (count : ℕ) → form ≡ Whole count → Kept k file count store
+
+-- number j of line i in such a store
+unfoldable pub keptNumber : List ℕ → ℕ → ℕ → ℕ
+keptNumber store j i = getD store (i * 7 + j) 0
+
+-- a number from least to most
+unfoldable pub within : ℕ → ℕ → ℕ → Bool
+within least most n = leb least n && leb n most
+
+-- the numbers j of the first `count` lines, up to the first that is outside its range
+pub record Ranged (store : List ℕ) (count j least most : ℕ) (column : Column) : Type 0 where
+  pub fewer : column .lines ≤ count
+  pub lines-are : column .lines ≡ firstBelow (λ i. not (within least most (keptNumber store j i))) count
+  pub values-are : column .values ≡ tabulate (column .lines) (keptNumber store j) ++ drop (column .lines) (replicate 64 0)

@@ -1,5 +1,6 @@
 // Number tables: a names line and value lines of numbers parted by commas.
 mod digits;
+pub mod field;
 pub mod lines;
 pub mod row;
 pub mod rules;
@@ -21,6 +22,12 @@ pub struct Number {
 pub struct Line {
     pub length: usize,
     pub values: [u32; 7],
+}
+
+// One field of a record, and how many lines come before the first number outside its range.
+pub struct Column {
+    pub lines: usize,
+    pub values: [u8; 64],
 }
 
 // What rule 2 finds: so many value lines, or the first broken one.

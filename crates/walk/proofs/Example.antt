@@ -11,7 +11,7 @@ use Rattle.refusals.specs.declared.Verdict.{Verdict}
 use Rattle.refusals.specs.declared.Verdict.the-variants.{Accepted, Refused}
 use Rattle.refusals.specs.declared.Refusal.the-variants.{NotOpen}
 use Rattle.refusals.specs.Search.{firstBelow, anyBelow, allBelow, countBelow, greatestBelow, tabulate}
-use Rattle.refusals.specs.Verdict.{before, lineVerdict, firstLine, noLine, rule3}
+use Rattle.refusals.specs.Verdict.{firstRefusal, lineVerdict, firstLine, noLine, rule3}
 use Rattle.tables.specs.Numbers.{isDigit}
 use Rattle.cell.specs.declared.Cell.{Cell}
 use Rattle.cell.specs.declared.CellReading.{CellReading}
@@ -22,17 +22,18 @@ use Rattle.recipe.specs.declared.RecipeReading.{RecipeReading}
 use Rattle.recipe.specs.Rules as recipe
 use Rattle.recipe.specs.Reader.{recipeNames, readRecipe}
 use Rattle.positions.specs.Radix.{sumBelow, productBelow}
-use Rattle.positions.specs.Sizes.{resourceCount, farthest, stateCount, stateCounts, partsIn, partCount, jointCount, sizesOf}
-use Rattle.positions.specs.Position.{start, stateWeight, stateNumber, placeNumber, positionOf}
-use Rattle.positions.specs.Rules.{checkRecords, rule13, rule14, stateFits, placeCount, placeFits, isPosition, rule16}
+use Rattle.positions.specs.Sizes.{resourceCount, farthest, stateCount, stateCounts, partsIn, partCount, jointCount, sizesFor, sizesOf}
+use Rattle.positions.specs.Position.{start, stateWeight, stateNumber, placeNumber, positionOf, entryOf}
+use Rattle.positions.specs.Rules.{checkRecords, recordRules, rule13, rule14, stateFits, placeCount, placeFits, isPosition, rule16}
 use Rattle.steps.specs.Lines.{isAt, firstLineOf, linesOf, kindOf, thenOf, elseOf, lineOf, inAny, isTaken, isGiven}
-use Rattle.steps.specs.Carry.{standsAt, isFree, free, putThere, placed, partsMoved}
-use Rattle.steps.specs.Entry.{entryKind, letter, unused, endEntry}
-use Rattle.steps.specs.Single.{ready, lineReady, internalOpen, transferOpen, lineServes, isApart, carryOpen, silentOpen, opens, statesAfter, linesTaken, handOver, transferred, carried, makes, leadsTo}
+use Rattle.steps.specs.Joint.{mayDo, acts, actsOn, howMany, portFits, isStep, isSilent, isSilentStep, stateAfter, receiver, handed, placeAfter, after}
+use Rattle.steps.specs.Carry.{serves, matches, standsAt, present, isFree, free, carriesDo, carriesTest, carries, putThere, placed, partsMoved, afterCarry}
+use Rattle.steps.specs.Entry.{entryKind, letter, unused, lettersUsed, isLine, isFormed, only, stepOf, mayBeTaken}
+use Rattle.steps.specs.Effect.{taken, effect, isMove, opens, leaves, makes, leadsTo}
 use Rattle.run.specs.declared.Run.{Run}
-use Rattle.run.specs.Calls.{freshRun, entryAt, checkTable, rule17, rule18, rule19, moveAnswer, nextMove, nextRun, reportAnswer, reportOf}
+use Rattle.run.specs.Calls.{freshRun, entryAt, tableRules, entryRules, moveRules, reportRules, rule17, rule18, rule19, moveAnswer, nextMove, nextRun, reportAnswer, reportOf}
 use Rattle.planner.specs.Call.{checkPlan, PlanCall}
-use Rattle.worked.specs.Bench.{row, cellFile, recipeFile}
+use Rattle.worked.specs.Bench.{digits, row, cellFile, recipeWith, recipeFile}
 use Rattle.worked.specs.Moves.{filled, benchCell, benchRecipe, benchEntry, benchTable}
 use Rattle.worked.proofs.Table.{table}
 use Rattle.walk.specs.Text.{lastDigit, digitsOf, field, moveLine}
@@ -48,13 +49,13 @@ Along c r planned other run (byte ∷ bytes) = (entryAt c r planned run ≡ entr
 module _ (c : Cell) (r : Recipe) (planned other : List ℕ) (both : rule14 (sizesOf c r) (length planned) ≡ rule14 (sizesOf c r) (length other)) where
   toldBy : Run → ℕ → Verdict → ℕ → Told
   toldBy run byte fits entry =
-      let checked = before (checkRecords c r) (before (rule13 (sizesOf c r)) (before fits (rule16 (sizesOf c r) (run .point) (run .configuration)))) in
+      let checked = recordRules c r ++ (rule13 (sizesOf c r) ∷ fits ∷ rule16 (sizesOf c r) (run .point) (run .configuration) ∷ []) in
       let opened = noLine NotOpen (not (opens c r (run .point) (run .configuration) entry)) in
-      let report = reportAnswer (before checked (before (rule17 (byte - 48)) (before opened (rule19 r run)))) run (record { point = leadsTo r (run .point) entry (byte - 48); configuration = makes c r (run .point) (run .configuration) entry }) in
-      cond (isDigit byte) (reported c r (moveAnswer (before checked opened) entry .entry) run (report .verdict) (report .run)) (record { line = []; more = false; run = run })
+      let report = reportAnswer (firstRefusal (checked ++ (rule17 (byte - 48) ∷ opened ∷ rule19 r run ∷ []))) run (record { point = leadsTo r (run .point) entry (byte - 48); configuration = makes c r (run .point) (run .configuration) entry (byte - 48) }) in
+      cond (isDigit byte) (reported c r (moveAnswer (firstRefusal (checked ++ (opened ∷ []))) entry .entry) run (report .verdict) (report .run)) (record { line = []; more = false; run = run })
 
   told-by : (table : List ℕ) (run : Run) (byte : ℕ) → told c r table run byte ≡ toldBy run byte (rule14 (sizesOf c r) (length table)) (entryAt c r table run)
-  unfolding told toldBy nextMove reportOf checkTable rule18 nextRun
+  unfolding told toldBy nextMove reportOf entryRules tableRules moveRules reportRules rule18 nextRun
   told-by table run byte = refl
 
   told-same : (run : Run) (byte : ℕ) → entryAt c r planned run ≡ entryAt c r other run → told c r planned run byte ≡ told c r other run byte
@@ -96,16 +97,19 @@ record Computed : Type 0 where
       → Along benchCell benchRecipe planned benchTable freshRun outcomes
 
 computed : Computed
-unfolding firstBelow anyBelow allBelow countBelow greatestBelow tabulate before lineVerdict firstLine noLine rule3 cell.inRange cell.leavesRange cell.rule4
-    cell.isOf cell.greatestResource cell.hasNoLine cell.gap cell.rule5 cell.otherAct cell.partner cell.inOrOut cell.unpaired cell.rule6 cell.checkCell
-    recipe.inRange recipe.leavesRange recipe.rule4 recipe.breaksOrder recipe.rule7 recipe.samePoint recipe.clashes recipe.breaksRepeat recipe.rule8
-    recipe.hasUnused recipe.breaksUnused recipe.rule9 recipe.lacksParts recipe.breaksParts recipe.rule10 recipe.holdsPart recipe.common recipe.sharesPart
-    recipe.breaksCommon recipe.rule11 recipe.opensPoint recipe.pointCount recipe.leadsOut recipe.breaksTarget recipe.rule12 recipe.checkPoints
-    recipe.checkRecipe sumBelow productBelow resourceCount farthest stateCount stateCounts partsIn partCount jointCount sizesOf start stateWeight stateNumber
-    placeNumber positionOf checkRecords rule13 rule14 stateFits placeCount placeFits isPosition rule16 isAt firstLineOf linesOf kindOf thenOf elseOf lineOf inAny
-    isTaken isGiven standsAt isFree free putThere placed partsMoved entryKind letter unused endEntry ready lineReady internalOpen transferOpen lineServes isApart
-    carryOpen silentOpen opens statesAfter linesTaken handOver transferred carried makes leadsTo freshRun entryAt checkTable rule17 rule18 rule19 moveAnswer nextMove
-    nextRun reportAnswer reportOf filled benchCell benchRecipe benchEntry benchTable isDigit lastDigit digitsOf field moveLine row cellFile recipeFile cellNames recipeNames numbered positionIn reported told printed Along
+unfolding firstBelow anyBelow allBelow countBelow greatestBelow tabulate firstRefusal lineVerdict firstLine noLine rule3 cell.inRange cell.leavesRange
+    cell.rule4 cell.isOf cell.greatestResource cell.hasNoLine cell.gap cell.rule5 cell.otherAct cell.partner cell.inOrOut cell.unpaired cell.rule6
+    cell.afterRange cell.cellRules recipe.inRange recipe.leavesRange recipe.rule4 recipe.breaksOrder recipe.rule7 recipe.samePoint recipe.clashes
+    recipe.breaksRepeat recipe.rule8 recipe.hasUnused recipe.breaksUnused recipe.rule9 recipe.lacksParts recipe.breaksParts recipe.rule10
+    recipe.holdsPart recipe.common recipe.sharesPart recipe.breaksCommon recipe.rule11 recipe.opensPoint recipe.pointCount recipe.leadsOut
+    recipe.breaksTarget recipe.rule12 recipe.afterRange recipe.recipeRules sumBelow productBelow resourceCount farthest stateCount stateCounts partsIn
+    partCount jointCount sizesFor start stateWeight stateNumber placeNumber positionOf checkRecords recordRules rule13 rule14 stateFits placeCount placeFits
+    isPosition rule16 isAt firstLineOf linesOf kindOf thenOf elseOf lineOf inAny isTaken isGiven freshRun entryOf tableRules entryRules moveRules
+    reportRules rule17 rule18 rule19 moveAnswer nextMove nextRun reportAnswer reportOf filled benchCell benchRecipe benchEntry benchTable isDigit
+    lastDigit digitsOf field moveLine digits row cellFile recipeWith recipeFile cellNames recipeNames numbered positionIn reported told printed Along
+    mayDo acts actsOn howMany portFits isStep isSilent isSilentStep stateAfter receiver handed placeAfter after serves matches standsAt present isFree
+    free carriesDo carriesTest carries putThere placed partsMoved afterCarry entryKind letter unused lettersUsed isLine isFormed only stepOf
+    mayBeTaken taken effect isMove opens leaves makes leadsTo
 computed = record { lines = refl; entries = refl; cell-start = refl; recipe-start = refl; positions = refl; same = λ planned first second third fourth. (first, (second, (third, (fourth, tt)))) }
 
 -- every plan call leaves a table of the length that was lent
@@ -142,7 +146,7 @@ module _
 
 -- and of the whole output, from the bytes of the two files on
 pub example : (text : List ℕ) → Output (cellFile 5) recipeFile outcomes text → text ≡ namesLine ++ fourMoves
-unfolding below before
+unfolding below firstRefusal
 example text output =
     let read = cell-reading ∙ table .of-files .cell-read in
     let recipe-read = recipe-reading ∙ table .of-files .recipe-read in
@@ -163,5 +167,5 @@ example text output =
     recipe-reading : readRecipe (take 8192 recipeFile) ≡ readRecipe recipeFile
     recipe-reading = ap readRecipe (computed .recipe-start)
 
-    passes : {v w x : Verdict} → v ≡ Accepted → w ≡ Accepted → x ≡ Accepted → before v (before w x) ≡ Accepted
-    passes first second third = λ i. before (first i) (before (second i) (third i))
+    passes : {v w x : Verdict} → v ≡ Accepted → w ≡ Accepted → x ≡ Accepted → firstRefusal (v ∷ w ∷ x ∷ []) ≡ Accepted
+    passes first second third = λ i. firstRefusal (first i ∷ second i ∷ third i ∷ [])

@@ -1,11 +1,11 @@
--- Text put piece after piece (Pieces), the numbers of positions (Located), the answers to a byte (Answers), input that
--- comes in parts (Parts), reads of it (Chunks), the files and the plan (Decided), printed numbers read back (ReadBack), and
--- the bench example (Example).
-mod Pieces
-mod Located
-mod Answers
-mod Parts
-mod Chunks
-mod Decided
-mod ReadBack
+-- Text put piece after piece (BufferPieces), the numbers of positions (RunPosition), the answers to a byte (ByteAnswers), input
+-- that comes in parts (InputInParts), reads of it (InputReads), the files and the plan (FilesDecide), printed numbers read back
+-- (PrintedReadsBack), and the bench example (Example).
+mod BufferPieces
+mod RunPosition
+mod ByteAnswers
+mod InputInParts
+mod InputReads
+mod FilesDecide
+mod PrintedReadsBack
 pub mod Example

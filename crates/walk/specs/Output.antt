@@ -8,7 +8,7 @@ use lib.ListN.{length, take}
 use Rattle.refusals.specs.Refusal.{numberOf}
 use Rattle.refusals.specs.declared.Verdict.{Verdict}
 use Rattle.refusals.specs.declared.Verdict.the-variants.{Accepted, Refused}
-use Rattle.refusals.specs.Verdict.{before}
+use Rattle.refusals.specs.Verdict.{firstRefusal}
 use Rattle.cell.specs.declared.Cell.{Cell}
 use Rattle.cell.specs.declared.CellReading.{CellReading}
 use Rattle.cell.specs.Reader.{readCell}
@@ -55,7 +55,7 @@ pub record PlanMade (c : Cell) (r : Recipe) (table′ : List ℕ) (verdict : Ver
 pub record Decided (cellFile recipeFile table : List ℕ) (verdict : Verdict) : Type 0 where
   pub plan : Verdict
   pub verdict-is :
-      verdict ≡ before (readCell (take 8192 cellFile) .verdict) (before (readRecipe (take 8192 recipeFile) .verdict) plan)
+      verdict ≡ firstRefusal (readCell (take 8192 cellFile) .verdict ∷ readRecipe (take 8192 recipeFile) .verdict ∷ plan ∷ [])
   pub planned :
       readCell (take 8192 cellFile) .verdict ≡ Accepted
       → readRecipe (take 8192 recipeFile) .verdict ≡ Accepted

@@ -7,7 +7,7 @@ use lib.ListN.{length, take}
 use Rattle.refusals.specs.Refusal.{numberOf}
 use Rattle.refusals.specs.declared.Verdict.{Verdict}
 use Rattle.refusals.specs.declared.Verdict.the-variants.{Accepted, Refused}
-use Rattle.refusals.specs.Verdict.{before}
+use Rattle.refusals.specs.Verdict.{firstRefusal}
 use Rattle.tables.specs.Numbers.{isDigit}
 use Rattle.cell.specs.declared.Cell.{Cell}
 use Rattle.recipe.specs.declared.Recipe.{Recipe}
@@ -27,7 +27,7 @@ numbered (Refused refusal line) n = 0
 -- the number of a run's position; 0 of what is no run
 unfoldable pub positionIn : Cell → Recipe → Run → ℕ
 positionIn c r run =
-    numbered (before (checkRecords c r) (rule16 (sizesOf c r) (run .point) (run .configuration)))
+    numbered (firstRefusal (checkRecords c r ∷ rule16 (sizesOf c r) (run .point) (run .configuration) ∷ []))
     (positionOf (sizesOf c r) (run .point) (run .configuration))
 
 -- what is printed for a byte, whether the walk goes on, and the run afterwards

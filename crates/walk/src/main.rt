@@ -4,10 +4,10 @@ mod text;
 mod turn;
 
 ghost use mathlib.Core.Path.{_≡_};
-ghost use mathlib.Core.List.{[]};
+ghost use mathlib.Core.List.{[], _∷_};
 ghost use Prim.Native.Nat.{_*_, _≤_};
 ghost use lib.ListN.{length};
-ghost use Rattle.refusals.specs.Verdict.{before};
+ghost use Rattle.refusals.specs.Verdict.{firstRefusal};
 ghost use Rattle.io.specs.Counts.{Counts};
 ghost use Rattle.walk.specs.Output.{below, CellRead, RecipeRead, Prepared, Stepped, Followed};
 use cell::Cell;
@@ -118,7 +118,7 @@ fn read_recipe(cell: Verdict) -> RecipeReading
 
 // The first of two verdicts that refuses.
 fn first_refusal(first: Verdict, second: Verdict) -> Verdict
-    ensures { λ r. ⌜ r ≡ before first second ⌝ }
+    ensures { λ r. ⌜ r ≡ firstRefusal (first ∷ second ∷ []) ⌝ }
 {
     let Verdict::Accepted = first else {
         return first;

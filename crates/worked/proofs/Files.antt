@@ -3,7 +3,7 @@ use mathlib.Core.Path.{_≡_, refl}
 use Rattle.refusals.specs.declared.Verdict.the-variants.{Accepted, Refused}
 use Rattle.refusals.specs.declared.Refusal.the-variants.{NoPartner}
 use Rattle.refusals.specs.Search.{firstBelow, anyBelow, countBelow, greatestBelow, tabulate}
-use Rattle.refusals.specs.Verdict.{before, lineVerdict, firstLine, noLine, rule3}
+use Rattle.refusals.specs.Verdict.{firstRefusal, lineVerdict, firstLine, noLine, rule3}
 use Rattle.tables.specs.Lines.{upTo, past, lengthened, parted, ended, last, lines, unended, valueText, valueLines}
 use Rattle.tables.specs.Numbers.{isDigit, areDigits, isNumber, decimal, fields, areNumbers, isRow, numbers}
 use Rattle.tables.specs.Table.{starts, rule1, firstBroken, isBroken, rule2, numberAt, column}
@@ -30,13 +30,13 @@ pub record Files : Type 0 where
   pub limit-recipe-read : readRecipe limitRecipeFile ≡ record { verdict = Accepted; recipe = limitRecipe }
 
 pub files : Files
-unfolding firstBelow anyBelow countBelow greatestBelow tabulate before lineVerdict firstLine noLine rule3 upTo past lengthened parted ended last lines
+unfolding firstBelow anyBelow countBelow greatestBelow tabulate firstRefusal lineVerdict firstLine noLine rule3 upTo past lengthened parted ended last lines
     unended valueText valueLines isDigit areDigits isNumber decimal fields areNumbers isRow numbers starts rule1 firstBroken isBroken rule2 numberAt column
     cell.inRange cell.leavesRange cell.rule4 cell.isOf cell.greatestResource cell.hasNoLine cell.gap cell.rule5 cell.otherAct cell.partner cell.inOrOut cell.unpaired
-    cell.rule6 cell.checkCell cellNames cellOf judgeCell reading readCell recipe.inRange recipe.leavesRange recipe.rule4 recipe.breaksOrder recipe.rule7 recipe.samePoint recipe.clashes
+    cell.rule6 cell.afterRange cell.cellRules cellNames cellOf judgeCell reading readCell recipe.inRange recipe.leavesRange recipe.rule4 recipe.breaksOrder recipe.rule7 recipe.samePoint recipe.clashes
     recipe.breaksRepeat recipe.rule8 recipe.hasUnused recipe.breaksUnused recipe.rule9 recipe.lacksParts recipe.breaksParts recipe.rule10 recipe.holdsPart recipe.common
-    recipe.sharesPart recipe.breaksCommon recipe.rule11 recipe.opensPoint recipe.pointCount recipe.leadsOut recipe.breaksTarget recipe.rule12 recipe.checkPoints
-    recipe.checkRecipe recipeNames recipeOf judgeRecipe recipe-reader.reading readRecipe digits row rows cellFile
+    recipe.sharesPart recipe.breaksCommon recipe.rule11 recipe.opensPoint recipe.pointCount recipe.leadsOut recipe.breaksTarget recipe.rule12 recipe.afterRange
+    recipe.recipeRules recipeNames recipeOf judgeRecipe recipe-reader.reading readRecipe digits row rows cellFile
     recipeWith recipeFile deadFile endFile limitCellFile limitRecipeFile filled benchCell benchRecipe deadRecipe endRecipe limitCell limitRecipe
 files =
     record {

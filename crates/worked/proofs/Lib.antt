@@ -1,11 +1,11 @@
 -- The worked examples marked ‡: the files, the moves, the limit, a list of calls and the plan, and the one table of all of them.
 mod Files
-mod Moves
+mod BenchMoves
 mod Limit
-mod Followed
-mod Plans
+mod BenchPromises
+mod BenchPlan
 mod Rework
-mod Forced
-mod Called
+mod OneMoveOpen
+mod PlanCalls
 mod Shuttle
 pub mod Table

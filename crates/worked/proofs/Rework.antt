@@ -1,11 +1,8 @@
 -- "a least set, which loses rework loops": the least set lacks the bench example's start, which the greatest simulation holds.
 -- Assumes nothing.
-use mathlib.Core.Path.{_≡_, refl, sym, ap, subst, _∙_}
-use mathlib.Core.Bool.{Bool, true, false, _||_}
+use mathlib.Core.Path.{_≡_, refl, sym, ap, _∙_}
 use Prim.Native.Nat.{ℕ}
 use native.Mathlib.Omega.{arith}
-use lib.Dec.{eqb}
-use borrow.Author.Tests.{eqb-true}
 use Rattle.refusals.specs.Search.{firstBelow}
 use Rattle.positions.specs.declared.Configuration.{Configuration}
 use Rattle.positions.specs.Position.{start}
@@ -13,7 +10,7 @@ use Rattle.steps.specs.Lines.{isAt, firstLineOf, kindOf, thenOf, elseOf}
 use Rattle.simulation.specs.Simulation.{Realisable}
 use Rattle.worked.specs.Moves.{filled, benchCell, benchRecipe}
 use Rattle.worked.specs.LeastSet.{Least, at-end, goes-on}
-use Rattle.worked.proofs.Plans.{bench-planned}
+use Rattle.worked.proofs.BenchPlan.{bench-planned}
 
 -- the points of the rework loop: part made, part tested, part taken out
 data Looping (p : ℕ) : Type 0 where
@@ -41,10 +38,10 @@ looping-goes p (taken-out is) none = omega (arith, computed .out-kind, sym (ap (
 -- some outcome always leads on in the loop, so no member of the least set is in it
 loop-lacks : {p : ℕ} {a : Configuration} → Least benchCell benchRecipe p a → Looping p → ⊥
 loop-lacks {p} (at-end none) loops = looping-goes p loops none
-loop-lacks {p} (goes-on to some leads then else) (made is) = loop-lacks then (tested (ap (thenOf benchRecipe) is ∙ computed .first-then))
-loop-lacks {p} (goes-on to some leads then else) (tested is) =
+loop-lacks {p} (goes-on passed failed some leads then else) (made is) = loop-lacks then (tested (ap (thenOf benchRecipe) is ∙ computed .first-then))
+loop-lacks {p} (goes-on passed failed some leads then else) (tested is) =
     loop-lacks (else (ap (kindOf benchRecipe) is ∙ computed .test-kind)) (taken-out (ap (elseOf benchRecipe) is ∙ computed .test-else))
-loop-lacks {p} (goes-on to some leads then else) (taken-out is) = loop-lacks then (made (ap (thenOf benchRecipe) is ∙ computed .out-then))
+loop-lacks {p} (goes-on passed failed some leads then else) (taken-out is) = loop-lacks then (made (ap (thenOf benchRecipe) is ∙ computed .out-then))
 
 pub record Rework : Type 0 where
   pub least-lacks : Least benchCell benchRecipe 0 start → ⊥

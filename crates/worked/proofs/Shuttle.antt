@@ -7,20 +7,22 @@ use native.Mathlib.Omega.{arith}
 use lib.ListN.{length}
 use Rattle.refusals.specs.declared.Verdict.the-variants.{Accepted}
 use Rattle.refusals.specs.Search.{firstBelow, anyBelow, allBelow, countBelow, greatestBelow, tabulate}
-use Rattle.refusals.specs.Verdict.{before, lineVerdict, firstLine, noLine, rule3}
+use Rattle.refusals.specs.Verdict.{firstRefusal, lineVerdict, firstLine, noLine, rule3}
 use Rattle.cell.specs.Rules as cell
 use Rattle.recipe.specs.Rules as recipe
 use Rattle.positions.specs.Radix.{sumBelow, productBelow}
-use Rattle.positions.specs.Sizes.{resourceCount, farthest, stateCount, stateCounts, partsIn, partCount, jointCount, sizesOf}
-use Rattle.positions.specs.Position.{stateWeight, stateNumber, placeNumber, positionOf}
-use Rattle.positions.specs.Rules.{checkRecords, rule13, checkSizes, stateFits, placeCount, placeFits, isPosition}
+use Rattle.positions.specs.Sizes.{resourceCount, farthest, stateCount, stateCounts, partsIn, partCount, jointCount, sizesFor, sizesOf}
+use Rattle.positions.specs.Position.{stateWeight, stateNumber, placeNumber, positionOf, entryOf}
+use Rattle.positions.specs.Rules.{recordRules, rule13, checkSizes, stateFits, placeCount, placeFits, isPosition}
 use Rattle.steps.specs.Lines.{isAt, firstLineOf, linesOf, kindOf}
-use Rattle.steps.specs.Joint.{mayDo, acts, actsOn, howMany, portFits, isStep, isSilent}
-use Rattle.steps.specs.Entry.{entryKind, letter, unused, lettersUsed, isLine, isFormed, only, stepOf, mayBeTaken, endEntry}
+use Rattle.steps.specs.Joint.{mayDo, acts, actsOn, howMany, portFits, isStep, isSilent, isSilentStep, stateAfter, receiver, handed, placeAfter, after}
+use Rattle.steps.specs.Carry.{serves, matches, standsAt, present, isFree, free, carriesDo, carriesTest, carries, putThere, placed, partsMoved, afterCarry}
+use Rattle.steps.specs.Entry.{entryKind, letter, unused, lettersUsed, isLine, isFormed, only, stepOf, mayBeTaken}
+use Rattle.steps.specs.Effect.{taken, effect, isMove, opens, leaves, makes, leadsTo}
 use Rattle.run.specs.Book.{Call, reports, opened, byTable, atEnd, isOpen, refusalOf, setTo, movedTo, configurationAfter, pointAfter, made, isAccepted, turned, noted, moments}
 use Rattle.run.specs.Promises.{every, fewSilent}
 use Rattle.simulation.specs.Simulation.{Position}
-use Rattle.simulation.specs.Plan.{entryOf, Planned}
+use Rattle.simulation.specs.Plan.{Planned}
 use Rattle.worked.specs.Moves.{filled}
 use Rattle.worked.specs.Worthless.{laneCell, laneRecipe, shuttleTable, madePart}
 
@@ -38,15 +40,18 @@ pub record Computed : Type 0 where
   many : every (fewSilent laneCell laneRecipe) (moments laneCell laneRecipe (byTable laneCell laneRecipe shuttleTable) [] (opened 1 madePart) shuttleCalls) ≡ false
 
 pub computed : Computed
-unfolding firstBelow anyBelow allBelow countBelow greatestBelow tabulate before lineVerdict firstLine noLine rule3 cell.inRange cell.leavesRange cell.rule4
-    cell.isOf cell.greatestResource cell.hasNoLine cell.gap cell.rule5 cell.otherAct cell.partner cell.inOrOut cell.unpaired cell.rule6 cell.checkCell
-    recipe.inRange recipe.leavesRange recipe.rule4 recipe.breaksOrder recipe.rule7 recipe.samePoint recipe.clashes recipe.breaksRepeat recipe.rule8
-    recipe.hasUnused recipe.breaksUnused recipe.rule9 recipe.lacksParts recipe.breaksParts recipe.rule10 recipe.holdsPart recipe.common recipe.sharesPart
-    recipe.breaksCommon recipe.rule11 recipe.opensPoint recipe.pointCount recipe.leadsOut recipe.breaksTarget recipe.rule12 recipe.checkPoints
-    recipe.checkRecipe sumBelow productBelow resourceCount farthest stateCount stateCounts partsIn partCount jointCount sizesOf stateWeight stateNumber
-    placeNumber positionOf checkRecords rule13 checkSizes stateFits placeCount placeFits isPosition isAt firstLineOf linesOf kindOf mayDo acts actsOn howMany portFits
-    isStep isSilent entryKind letter unused lettersUsed isLine isFormed only stepOf mayBeTaken endEntry opened byTable atEnd isOpen refusalOf setTo movedTo
-    configurationAfter pointAfter made isAccepted turned noted moments every fewSilent entryOf filled laneCell laneRecipe shuttleTable madePart
+unfolding firstBelow anyBelow allBelow countBelow greatestBelow tabulate firstRefusal lineVerdict firstLine noLine rule3 cell.inRange cell.leavesRange
+    cell.rule4 cell.isOf cell.greatestResource cell.hasNoLine cell.gap cell.rule5 cell.otherAct cell.partner cell.inOrOut cell.unpaired cell.rule6
+    cell.afterRange cell.cellRules recipe.inRange recipe.leavesRange recipe.rule4 recipe.breaksOrder recipe.rule7 recipe.samePoint recipe.clashes
+    recipe.breaksRepeat recipe.rule8 recipe.hasUnused recipe.breaksUnused recipe.rule9 recipe.lacksParts recipe.breaksParts recipe.rule10
+    recipe.holdsPart recipe.common recipe.sharesPart recipe.breaksCommon recipe.rule11 recipe.opensPoint recipe.pointCount recipe.leadsOut
+    recipe.breaksTarget recipe.rule12 recipe.afterRange recipe.recipeRules sumBelow productBelow resourceCount farthest stateCount stateCounts partsIn
+    partCount jointCount sizesFor stateWeight stateNumber placeNumber positionOf recordRules rule13 checkSizes stateFits placeCount placeFits
+    isPosition isAt firstLineOf linesOf kindOf opened byTable atEnd isOpen refusalOf setTo movedTo configurationAfter pointAfter made isAccepted
+    turned noted moments every fewSilent entryOf filled laneCell laneRecipe shuttleTable madePart mayDo acts actsOn howMany portFits isStep isSilent
+    isSilentStep stateAfter receiver handed placeAfter after serves matches standsAt present isFree free carriesDo carriesTest carries putThere placed
+    partsMoved afterCarry entryKind letter unused lettersUsed isLine isFormed only stepOf mayBeTaken taken effect isMove opens leaves makes
+    leadsTo
 computed = record { sized = refl; in-range = refl; six = refl; eight = refl; some = refl; many = refl }
 
 -- "shuttles a pallet for ever"

@@ -19,11 +19,11 @@ use Rattle.worked.specs.Moves.{benchCell, benchRecipe, benchTable}
 use Rattle.worked.specs.Plans.{deadRecipe, endRecipe}
 use Rattle.worked.specs.Worthless.{laneCell, laneRecipe, shuttleTable}
 use Rattle.worked.proofs.Files.{Files, files}
-use Rattle.worked.proofs.Followed.{benchCalls, followed}
+use Rattle.worked.proofs.BenchPromises.{benchCalls, followed}
 use Rattle.worked.proofs.Limit.{Limit, limit}
-use Rattle.worked.proofs.Moves.{Moves, moves}
-use Rattle.worked.proofs.Plans.{computed, bench-planned}
-use Rattle.worked.proofs.Called.{Bench, bench-called, short-scratch, dead-called, end-called}
+use Rattle.worked.proofs.BenchMoves.{Moves, moves}
+use Rattle.worked.proofs.BenchPlan.{computed, bench-planned}
+use Rattle.worked.proofs.PlanCalls.{Bench, bench-called, short-scratch, dead-called, end-called}
 use Rattle.worked.proofs.Rework.{Rework, rework}
 use Rattle.worked.proofs.Shuttle.{computed as shuttle-computed, shuttle-not}
 

@@ -11,9 +11,9 @@ use Rattle.simulation.specs.Simulation.{Leads}
 pub data Least (c : Cell) (r : Recipe) : ℕ → Configuration → Type 0 where
   at-end : {p : ℕ} {a : Configuration} → kindOf r p ≡ 0 → Least c r p a
   goes-on :
-      {p : ℕ} {a : Configuration} (to : Configuration)
+      {p : ℕ} {a : Configuration} (passed failed : Configuration)
       → (kindOf r p ≡ 0 → ⊥)
-      → Leads c r p a to
-      → Least c r (thenOf r p) to
-      → (kindOf r p ≡ 2 → Least c r (elseOf r p) to)
+      → Leads c r p a passed failed
+      → Least c r (thenOf r p) passed
+      → (kindOf r p ≡ 2 → Least c r (elseOf r p) failed)
       → Least c r p a

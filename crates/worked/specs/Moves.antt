@@ -10,7 +10,7 @@ use Rattle.recipe.specs.declared.Recipe.{Recipe}
 use Rattle.positions.specs.declared.Sizes.{Sizes}
 use Rattle.positions.specs.Sizes.{sizesOf}
 use Rattle.positions.specs.Position.{positionOf, pointAt, configurationAt}
-use Rattle.steps.specs.Single.{opens, makes, leadsTo}
+use Rattle.steps.specs.Effect.{opens, makes, leadsTo}
 
 -- a field of a record's lines, filled with 0 to 64 lines
 unfoldable pub filled : List ℕ → List ℕ
@@ -50,7 +50,7 @@ next position entry outcome =
     let p = pointAt benchSizes position in
     let a = configurationAt benchSizes position in
     cond (opens benchCell benchRecipe p a entry)
-    (positionOf benchSizes (leadsTo benchRecipe p entry outcome) (makes benchCell benchRecipe p a entry))
+    (positionOf benchSizes (leadsTo benchRecipe p entry outcome) (makes benchCell benchRecipe p a entry outcome))
     position
 
 -- the bench example's plan: the moves that `walk` prints, those at other positions from which the recipe can be built, and

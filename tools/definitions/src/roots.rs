@@ -26,7 +26,19 @@ pub struct Group {
 }
 
 /// The closing theorems: a file, and the names of those in it that close the argument.
-const THEOREMS: &[Root] = &[];
+const THEOREMS: &[Root] = &[Root::Theorems(
+    "crates/planner/proofs/Demands.antt",
+    &[
+        "accepted-realisable",
+        "realisable-accepted",
+        "unrealisable-refused",
+        "entry-exactly",
+        "refused-breaks",
+        "accepted-rules",
+        "demand-3",
+        "demand-3-record",
+    ],
+)];
 
 pub const GROUPS: &[Group] = &[
     Group {

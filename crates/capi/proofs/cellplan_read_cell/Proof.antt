@@ -3,7 +3,7 @@ use lib.ListN.{drop}
 use mathlib.Core.Path.{sym, ap, _∙_, subst}
 use Prim.Native.Nat.{_≤_}
 use Rattle.cell.specs.declared.CellReading.{CellReading}
-use Rattle.cell.proofs.Accepted.{read-few}
+use Rattle.cell.proofs.AcceptedRecord.{read-few}
 use Rattle.capi.specs.Encoding.{codeOf, cellBytes}
 use Rattle.capi.proofs.Answers.{too-short, answered}
 use borrow.Author.Needs.{needs}

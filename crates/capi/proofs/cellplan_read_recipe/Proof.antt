@@ -3,7 +3,7 @@ use lib.ListN.{drop}
 use mathlib.Core.Path.{sym, ap, _∙_, subst}
 use Prim.Native.Nat.{_≤_}
 use Rattle.recipe.specs.declared.RecipeReading.{RecipeReading}
-use Rattle.recipe.proofs.Accepted.{read-few}
+use Rattle.recipe.proofs.AcceptedRecord.{read-few}
 use Rattle.capi.specs.Encoding.{codeOf, recipeBytes}
 use Rattle.capi.proofs.Answers.{too-short, answered}
 use borrow.Author.Needs.{needs}

@@ -1,5 +1,6 @@
 use Rattle.recipe.specs.Rules.{rule9, rule10}
 use Rattle.refusals.proofs.Verdicts.{line, broken, kept}
+use Rattle.refusals.proofs.Rules.{decides}
 use borrow.Author.Needs.{needs}
 use Rattle.recipe.proofs.check_fields.Statement.{statement}
 use Rattle.recipe.proofs.check_fields.Tie as tie
@@ -22,7 +23,7 @@ at-line-requires c κs = search needs
 
 returns-2 : tie.Need-returns-2
 unfolding rule9 rule10
-returns-2 c = kept _ _ _ _ (c .before .before .before .before .first-unused .ensures) (c .before .before .if1 .left) (line _ _ _ _ (c .before .first-without-parts .ensures) (c .at-line .ensures))
+returns-2 c = kept _ _ _ _ (c .before .before .before .before .first-unused .ensures) _ (c .before .before .if1 .left) (decides (line _ _ _ _ (c .before .first-without-parts .ensures) (c .at-line .ensures)))
 
 pub check-fields-spec : {M : Type 1} → statement M
 check-fields-spec =

@@ -1,6 +1,7 @@
 use Rattle.recipe.specs.Rules.{rule7, rule8}
 use Rattle.refusals.proofs.Scan.{first-all}
 use Rattle.refusals.proofs.Verdicts.{line, broken, kept}
+use Rattle.refusals.proofs.Rules.{decides}
 use borrow.Author.Needs.{needs}
 use Rattle.recipe.proofs.check_order.Statement.{statement}
 use Rattle.recipe.proofs.check_order.Tie as tie
@@ -23,7 +24,7 @@ at-line-requires c κs = search needs
 
 returns-2 : tie.Need-returns-2
 unfolding rule7 rule8
-returns-2 c = kept _ _ _ _ (c .before .before .before .before .before .before .first-out-of-order .ensures) (c .before .before .before .before .before .if1 .left) (line _ _ _ _ (c .before .first-bad-repeat .ensures) (c .at-line .ensures))
+returns-2 c = kept _ _ _ _ (c .before .before .before .before .before .before .first-out-of-order .ensures) _ (c .before .before .before .before .before .if1 .left) (decides (line _ _ _ _ (c .before .first-bad-repeat .ensures) (c .at-line .ensures)))
 
 pub check-order-spec : {M : Type 1} → statement M
 check-order-spec =

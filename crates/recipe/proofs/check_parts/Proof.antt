@@ -1,7 +1,8 @@
 use mathlib.Core.Path.{sym}
 use Rattle.recipe.specs.Rules.{rule11, rule12}
 use Rattle.refusals.proofs.Verdicts.{line, broken, kept}
-use Rattle.recipe.proofs.Order.{ordered-all}
+use Rattle.refusals.proofs.Rules.{decides}
+use Rattle.recipe.proofs.PointOrder.{ordered-all}
 use borrow.Author.Needs.{needs}
 use Rattle.recipe.proofs.check_parts.Statement.{statement}
 use Rattle.recipe.proofs.check_parts.Tie as tie
@@ -27,7 +28,7 @@ at-line-requires c κs = search needs
 
 returns-2 : tie.Need-returns-2
 unfolding rule11 rule12
-returns-2 c = kept _ _ _ _ (c .before .before .before .before .before .first-common .ensures) (c .before .before .before .before .if1 .left) (line _ _ _ _ (rw (sym (c .before .before .point-count .ensures)) (c .before .first-leading-out .ensures)) (c .at-line .ensures))
+returns-2 c = kept _ _ _ _ (c .before .before .before .before .before .first-common .ensures) _ (c .before .before .before .before .if1 .left) (decides (line _ _ _ _ (rw (sym (c .before .before .point-count .ensures)) (c .before .first-leading-out .ensures)) (c .at-line .ensures)))
 
 pub check-parts-spec : {M : Type 1} → statement M
 check-parts-spec =

@@ -1,9 +1,10 @@
 use mathlib.Core.Path.{sym, _∙_}
 use native.Mathlib.Omega.{arith}
 use borrow.Author.Tests.{not-true, not-false}
-use Rattle.refusals.specs.Verdict.{before}
+use Rattle.refusals.specs.Verdict.{firstRefusal}
 use Rattle.tables.specs.Table.{rule1, rule2}
-use Rattle.tables.proofs.Values.{whole, broken, broken-few}
+use Rattle.tables.proofs.KeptNumbers.{whole, broken, broken-few}
+use Rattle.recipe.specs.Rules.{checkRecipe}
 use Rattle.recipe.specs.Reader.{recipeNames, judgeRecipe, reading, readRecipe}
 use borrow.Author.Needs.{needs}
 use Rattle.recipe.proofs.read_recipe.Statement.{statement}
@@ -19,7 +20,7 @@ refused-requires : tie.Need-refused-requires
 refused-requires c κs = search needs
 
 returns : tie.Need-returns
-unfolding before rule1 recipeNames judgeRecipe reading readRecipe
+unfolding firstRefusal rule1 recipeNames judgeRecipe reading readRecipe
 returns c = c .refused .ensures ∙ rw (sym (c .before .before .has-names .ensures) ∙ not-true _ (c .before .if1 .taken))
 
 slice-aggregate-check-lines : tie.Need-slice-aggregate-check-lines
@@ -47,11 +48,11 @@ read-lines-requires : tie.Need-read-lines-requires
 read-lines-requires c κs = search needs
 
 returns-2 : tie.Need-returns-2
-unfolding before rule1 rule2 recipeNames judgeRecipe reading readRecipe
+unfolding firstRefusal rule1 rule2 recipeNames judgeRecipe reading readRecipe
 returns-2 c = let told = c .before .before in let C = told .before .before .before .check-lines .ensures in let b = broken 7 (c .before .before .before .before .before .before .before .before .before .before .before .args .file .now) (told .n .given .0 .0) (sym (told .n .given .1) ∙ C .form-is) in c .refused2 .ensures ∙ rw (sym (c .before .before .before .before .before .before .before .before .has-names .ensures) ∙ not-false _ (c .before .before .before .before .before .before .before .if1 .left), b .0, b .1)
 
 returns-3 : tie.Need-returns-3
-unfolding before rule1 rule2 recipeNames judgeRecipe reading readRecipe
+unfolding firstRefusal rule1 rule2 recipeNames judgeRecipe reading readRecipe checkRecipe
 returns-3 c = let told = c .before .before .before in let f = c .before .before .before .before .before .before .before .before .before .before .before .before .args .file .now in let n = told .count .given .0 .0 in let C = told .before .before .before .check-lines .ensures in let b = whole 7 f n (sym (told .count .given .1) ∙ C .form-is) in c .read-lines .ensures f (b .1) (C .kept n (told .count .given .1)) ∙ rw (sym (c .before .before .before .before .before .before .before .before .before .has-names .ensures) ∙ not-false _ (c .before .before .before .before .before .before .before .before .if1 .left), b .0)
 
 pub read-recipe-spec : {M : Type 1} → statement M

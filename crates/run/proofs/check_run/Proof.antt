@@ -1,9 +1,10 @@
 use mathlib.Core.Path.{sym, ap, _∙_}
 use mathlib.Core.Bool.{not}
-use Rattle.refusals.proofs.Verdicts.{refuses, accepts}
+use Rattle.refusals.proofs.Verdicts.{noLine-broken, noLine-kept}
+use Rattle.refusals.proofs.Rules.{refuses, accepts, decides}
 use Rattle.refusals.specs.declared.Refusal.the-variants.{RunRange}
 use Rattle.positions.specs.Rules.{rule16}
-use Rattle.run.proofs.Judged.{noLine-broken, noLine-kept}
+use Rattle.run.specs.Calls.{runRules}
 use borrow.Author.Needs.{needs}
 use Rattle.run.proofs.check_run.Statement.{statement}
 use Rattle.run.proofs.check_run.Tie as tie
@@ -18,18 +19,19 @@ enum-told-2 : tie.Need-enum-told-2
 enum-told-2 c = search needs
 
 returns : tie.Need-returns
+unfolding runRules
 returns c = refuses _ (c .before .before .check-size .ensures) (c .enum-told2 .given .1)
 
 is-position-requires : tie.Need-is-position-requires
 is-position-requires c κs = search needs
 
 returns-2 : tie.Need-returns-2
-unfolding rule16
-returns-2 c = accepts (c .before .before .before .before .check-size .ensures) (c .before .before .enum-told .given .1) (sym (noLine-broken RunRange _ (ap not (sym (c .before .is-position .ensures)) ∙ c .if1 .taken)))
+unfolding runRules rule16
+returns-2 c = accepts _ (c .before .before .before .before .check-size .ensures) (c .before .before .enum-told .given .1) (decides (sym (noLine-broken RunRange _ (ap not (sym (c .before .is-position .ensures)) ∙ c .if1 .taken))))
 
 returns-3 : tie.Need-returns-3
-unfolding rule16
-returns-3 c = accepts (c .before .before .before .before .check-size .ensures) (c .before .before .enum-told .given .1) (sym (noLine-kept RunRange _ (ap not (sym (c .before .is-position .ensures)) ∙ c .if1 .left)))
+unfolding runRules rule16
+returns-3 c = accepts _ (c .before .before .before .before .check-size .ensures) (c .before .before .enum-told .given .1) (decides (sym (noLine-kept RunRange _ (ap not (sym (c .before .is-position .ensures)) ∙ c .if1 .left))))
 
 pub check-run-spec : {M : Type 1} → statement M
 check-run-spec =

@@ -1,4 +1,4 @@
-use Rattle.walk.proofs.Chunks.{Following, following-none, following-next, followed-all, followed-over}
+use Rattle.walk.proofs.InputReads.{Following, following-none, following-next, followed-all, followed-over}
 use lib.ListN.{length}
 use native.Mathlib.Omega.{arith}
 use mathlib.Core.Path.{_≡_, refl, sym, _∙_}

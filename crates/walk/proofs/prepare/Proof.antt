@@ -1,5 +1,5 @@
 use mathlib.Core.Path.{refl}
-use Rattle.walk.proofs.Decided.{prepared-refused, prepared-planned}
+use Rattle.walk.proofs.FilesDecide.{prepared-refused, prepared-planned}
 use borrow.Author.Needs.{needs}
 use Rattle.walk.proofs.prepare.Statement.{statement}
 use Rattle.walk.proofs.prepare.Tie as tie

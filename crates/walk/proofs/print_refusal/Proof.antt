@@ -1,5 +1,5 @@
-use Rattle.walk.proofs.Pieces.{put-counts}
-use Rattle.walk.proofs.Decided.{none-handed, line-handed}
+use Rattle.walk.proofs.BufferPieces.{put-counts}
+use Rattle.walk.proofs.FilesDecide.{none-handed, line-handed}
 use borrow.Author.Needs.{needs}
 use Rattle.walk.proofs.print_refusal.Statement.{statement}
 use Rattle.walk.proofs.print_refusal.Tie as tie

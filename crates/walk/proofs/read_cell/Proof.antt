@@ -1,4 +1,4 @@
-use Rattle.walk.proofs.Decided.{cell-start}
+use Rattle.walk.proofs.FilesDecide.{cell-start}
 use borrow.Author.Needs.{needs}
 use Rattle.walk.proofs.read_cell.Statement.{statement}
 use Rattle.walk.proofs.read_cell.Tie as tie

@@ -1,4 +1,4 @@
-use Rattle.walk.proofs.Decided.{recipe-start, recipe-none}
+use Rattle.walk.proofs.FilesDecide.{recipe-start, recipe-none}
 use borrow.Author.Needs.{needs}
 use Rattle.walk.proofs.read_recipe.Statement.{statement}
 use Rattle.walk.proofs.read_recipe.Tie as tie

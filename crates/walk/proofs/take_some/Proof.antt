@@ -1,6 +1,6 @@
 use mathlib.Core.Path.{_∙_}
 use lib.Seq.{length-take-le}
-use Rattle.walk.proofs.Chunks.{prefix-counts, step-ended, step-failed, step-written}
+use Rattle.walk.proofs.InputReads.{prefix-counts, step-ended, step-failed, step-written}
 use borrow.Author.Needs.{needs}
 use Rattle.walk.proofs.take_some.Statement.{statement}
 use Rattle.walk.proofs.take_some.Tie as tie

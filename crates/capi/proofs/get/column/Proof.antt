@@ -5,9 +5,9 @@ use Prim.Native.Nat.{ℕ, _+_, _*_, _-_, _≤_}
 use native.Mathlib.Omega.{arith}
 use lib.ListN.{getD, drop, replicate}
 use Rattle.refusals.specs.Search.{tabulate}
-use Rattle.refusals.proofs.Listed.{fill}
+use Rattle.refusals.proofs.TabulatedLists.{fill}
 use Rattle.capi.specs.Encoding.{columnOf}
-use Rattle.capi.proofs.Rows.{row-inside}
+use Rattle.capi.proofs.ByteRows.{row-inside}
 use Rattle.capi.proofs.get.column.Statement.{statement}
 use Rattle.capi.proofs.get.column.Tie as tie
 

@@ -4,7 +4,7 @@ use mathlib.Core.Path.{refl, _∙_}
 use native.Mathlib.Omega.{arith}
 use lib.ListN.{length, length-set}
 use Rattle.capi.specs.Encoding.{cellRow, cellBytes}
-use Rattle.capi.proofs.Rows.{Put, put-none, put-more, put-all}
+use Rattle.capi.proofs.ByteRows.{Put, put-none, put-more, put-all}
 use Rattle.capi.proofs.put.put_cell.Statement.{statement}
 use Rattle.capi.proofs.put.put_cell.Tie as tie
 

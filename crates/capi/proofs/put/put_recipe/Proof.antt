@@ -3,7 +3,7 @@ use mathlib.Core.Path.{refl, _∙_}
 use native.Mathlib.Omega.{arith}
 use lib.ListN.{length, set, length-set}
 use Rattle.capi.specs.Encoding.{recipeRow, recipeBytes}
-use Rattle.capi.proofs.Rows.{Put, put-none, put-more, put-all}
+use Rattle.capi.proofs.ByteRows.{Put, put-none, put-more, put-all}
 use Rattle.capi.proofs.put.put_recipe.Statement.{statement}
 use Rattle.capi.proofs.put.put_recipe.Tie as tie
 

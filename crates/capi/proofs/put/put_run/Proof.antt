@@ -3,7 +3,7 @@ use mathlib.Core.List.{[], _∷_}
 use lib.ListN.{getD}
 use Rattle.refusals.specs.Search.{tabulate}
 use Rattle.capi.specs.Encoding.{runBytes}
-use Rattle.capi.proofs.Rows.{put-three}
+use Rattle.capi.proofs.ByteRows.{put-three}
 use borrow.Author.Needs.{needs}
 use Rattle.capi.proofs.put.put_run.Statement.{statement}
 use Rattle.capi.proofs.put.put_run.Tie as tie

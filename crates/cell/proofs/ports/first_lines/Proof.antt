@@ -4,7 +4,7 @@ use Prim.Native.Nat.{_-_, _≤_}
 use lib.ListN.{length, length-set}
 use native.Mathlib.Omega.{arith}
 use borrow.Author.Needs.{needs}
-use Rattle.cell.proofs.Places.{Starts, starts-more}
+use Rattle.cell.proofs.FirstOnPort.{Starts, starts-more}
 use Rattle.cell.proofs.ports.first_lines.Statement.{statement}
 use Rattle.cell.proofs.ports.first_lines.Tie as tie
 

@@ -10,7 +10,7 @@ use Rattle.refusals.specs.Search.{firstBelow}
 use Rattle.refusals.proofs.Scan.{first-more, first-hit}
 use Rattle.cell.specs.Rules.{otherAct, partner, unpaired}
 use Rattle.cell.proofs.Partners.{neither, paired, alone}
-use Rattle.cell.proofs.Places.{place, Passed, passed-start, passed-more, passed-end}
+use Rattle.cell.proofs.FirstOnPort.{place, Passed, passed-start, passed-more, passed-end}
 use Rattle.cell.proofs.ports.first_unpaired.Statement.{statement}
 use Rattle.cell.proofs.ports.first_unpaired.Tie as tie
 

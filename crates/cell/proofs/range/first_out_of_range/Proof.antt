@@ -20,27 +20,27 @@ loop-holds : tie.Need-loop-holds Inv-loop μ-loop
 unfolding firstBelow
 loop-holds c = (omega arith, refl)
 
-element-copy-out-bytes-in-range : tie.Need-element-copy-out-bytes-in-range Inv-loop μ-loop
-element-copy-out-bytes-in-range c = omega arith
+element-copy-out-in-range : tie.Need-element-copy-out-in-range Inv-loop μ-loop
+element-copy-out-in-range c = omega arith
 
-element-copy-out-bytes-in-range-2 : tie.Need-element-copy-out-bytes-in-range-2 Inv-loop μ-loop
-element-copy-out-bytes-in-range-2 c = omega arith
+element-copy-out-in-range-2 : tie.Need-element-copy-out-in-range-2 Inv-loop μ-loop
+element-copy-out-in-range-2 c = omega arith
 
-element-copy-out-bytes-in-range-3 : tie.Need-element-copy-out-bytes-in-range-3 Inv-loop μ-loop
-element-copy-out-bytes-in-range-3 c = omega arith
+element-copy-out-in-range-3 : tie.Need-element-copy-out-in-range-3 Inv-loop μ-loop
+element-copy-out-in-range-3 c = omega arith
 
-element-copy-out-bytes-in-range-4 : tie.Need-element-copy-out-bytes-in-range-4 Inv-loop μ-loop
-element-copy-out-bytes-in-range-4 c = omega arith
+element-copy-out-in-range-4 : tie.Need-element-copy-out-in-range-4 Inv-loop μ-loop
+element-copy-out-in-range-4 c = omega arith
 
-element-copy-out-bytes-in-range-5 : tie.Need-element-copy-out-bytes-in-range-5 Inv-loop μ-loop
-element-copy-out-bytes-in-range-5 c = omega arith
+element-copy-out-in-range-5 : tie.Need-element-copy-out-in-range-5 Inv-loop μ-loop
+element-copy-out-in-range-5 c = omega arith
 
-bytes-in-range-requires : tie.Need-bytes-in-range-requires Inv-loop μ-loop
-bytes-in-range-requires c κs = search needs
+in-range-requires : tie.Need-in-range-requires Inv-loop μ-loop
+in-range-requires c κs = search needs
 
 returns : tie.Need-returns Inv-loop μ-loop
 unfolding leavesRange
-returns c = sym (first-hit _ _ _ (c .before .before .before .before .before .before .before .loop-test .taken) (c .before .before .before .before .before .before .before .before .loop .inv .1) (ap not (sym (c .before .bytes-in-range .ensures)) ∙ c .if1 .taken))
+returns c = sym (first-hit _ _ _ (c .before .before .before .before .before .before .before .loop-test .taken) (c .before .before .before .before .before .before .before .before .loop .inv .1) (ap not (sym (c .before .in-range .ensures)) ∙ c .if1 .taken))
 
 add-i : tie.Need-add-i Inv-loop μ-loop
 add-i c = omega arith
@@ -50,7 +50,7 @@ loop-less c = omega arith
 
 loop-again : tie.Need-loop-again Inv-loop μ-loop
 unfolding leavesRange
-loop-again c = (omega arith, first-more _ _ (c .before .before .before .before .before .before .before .before .loop .inv .1) (ap not (sym (c .before .bytes-in-range .ensures)) ∙ c .if1 .left))
+loop-again c = (omega arith, first-more _ _ (c .before .before .before .before .before .before .before .before .loop .inv .1) (ap not (sym (c .before .in-range .ensures)) ∙ c .if1 .left))
 
 returns-2 : tie.Need-returns-2 Inv-loop μ-loop
 returns-2 c = let e : c .before .loop .i ≡ c .before .before .args .count = omega arith in sym (rw e at (c .before .loop .inv .1))
@@ -62,12 +62,12 @@ first-out-of-range-spec =
     Inv-loop
     μ-loop
     loop-holds
-    element-copy-out-bytes-in-range
-    element-copy-out-bytes-in-range-2
-    element-copy-out-bytes-in-range-3
-    element-copy-out-bytes-in-range-4
-    element-copy-out-bytes-in-range-5
-    bytes-in-range-requires
+    element-copy-out-in-range
+    element-copy-out-in-range-2
+    element-copy-out-in-range-3
+    element-copy-out-in-range-4
+    element-copy-out-in-range-5
+    in-range-requires
     returns
     add-i
     loop-less

@@ -1,8 +1,8 @@
 use mathlib.Core.Path.{_≡_, sym, _∙_}
 use Rattle.refusals.specs.declared.Verdict.the-variants.{Accepted}
-use Rattle.refusals.specs.Verdict.{before, rule3}
+use Rattle.refusals.specs.Verdict.{firstRefusal, rule3}
 use Rattle.refusals.proofs.Verdicts.{count-in-range}
-use Rattle.cell.specs.Rules.{checkCell}
+use Rattle.cell.specs.Rules.{cellRules, checkCell}
 use Rattle.cell.specs.Reader.{cellOf, reading}
 use borrow.Author.Needs.{needs}
 use Rattle.cell.proofs.reader.read_lines.Statement.{statement}
@@ -24,11 +24,11 @@ refused-requires : tie.Need-refused-requires
 refused-requires c κs = search needs
 
 returns : tie.Need-returns
-unfolding before checkCell cellOf
+unfolding firstRefusal checkCell cellRules cellOf
 returns c = λ f all kept. c .store-lines .ensures f all kept ∙ rw (← all, sym (c .before .before .before .check-count .ensures) ∙ c .before .enum-told .given .1)
 
 returns-2 : tie.Need-returns-2
-unfolding before checkCell cellOf reading
+unfolding firstRefusal checkCell cellRules cellOf reading
 returns-2 c = λ f all kept. c .refused .ensures ∙ rw (← all, sym (c .before .before .before .before .check-count .ensures) ∙ c .before .before .refusal .given .1)
 
 pub read-lines-spec : {M : Type 1} → statement M

@@ -8,7 +8,7 @@ use lib.ListN.{getD}
 use lib.Dec.{ltb}
 use borrow.Author.Tests.{not-true, not-false, lt-ltb, le-ltb}
 use Rattle.refusals.specs.Search.{allBelow}
-use Rattle.refusals.proofs.Every.{all-more, all-fails, all-end}
+use Rattle.refusals.proofs.EveryBelow.{all-more, all-fails, all-end}
 use Rattle.positions.specs.Rules.{placeCount, placeFits}
 use Rattle.positions.proofs.range.places_fit.Statement.{statement}
 use Rattle.positions.proofs.range.places_fit.Tie as tie

@@ -1,5 +1,5 @@
 use native.Mathlib.Omega.{arith}
-use Rattle.recipe.proofs.Sums.{common-and}
+use Rattle.recipe.proofs.CommonParts.{common-and}
 use Rattle.recipe.proofs.parts.common.Statement.{statement}
 use Rattle.recipe.proofs.parts.common.Tie as tie
 

@@ -1,4 +1,4 @@
-use Rattle.recipe.proofs.Order.{ordered-to}
+use Rattle.recipe.proofs.PointOrder.{ordered-to}
 use mathlib.Core.Path.{_≡_, refl, sym, _∙_}
 use Prim.Native.Nat.{_≤_, _-_}
 use native.Mathlib.Omega.{arith}

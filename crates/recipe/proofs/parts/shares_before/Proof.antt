@@ -5,7 +5,7 @@ use native.Mathlib.Omega.{arith}
 use Rattle.refusals.specs.Search.{anyBelow}
 use Rattle.refusals.proofs.Scan.{any-more, any-hit, any-end}
 use Rattle.recipe.specs.Rules.{breaksCommon, sharesPart}
-use Rattle.recipe.proofs.Order.{none-shares, shares-at}
+use Rattle.recipe.proofs.PointOrder.{none-shares, shares-at}
 use Rattle.recipe.proofs.parts.shares_before.Statement.{statement}
 use Rattle.recipe.proofs.parts.shares_before.Tie as tie
 

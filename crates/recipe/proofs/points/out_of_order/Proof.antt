@@ -1,7 +1,7 @@
 use mathlib.Core.Path.{sym, ap, _∙_}
 use mathlib.Core.Bool.{not}
 use Rattle.recipe.specs.Rules.{breaksOrder}
-use Rattle.recipe.proofs.Order.{order-next}
+use Rattle.recipe.proofs.PointOrder.{order-next}
 use borrow.Author.Needs.{needs}
 use Rattle.recipe.proofs.points.out_of_order.Statement.{statement}
 use Rattle.recipe.proofs.points.out_of_order.Tie as tie

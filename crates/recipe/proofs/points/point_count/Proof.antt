@@ -1,5 +1,5 @@
 use mathlib.Core.Path.{_∙_}
-use Rattle.recipe.proofs.Order.{last-point}
+use Rattle.recipe.proofs.PointOrder.{last-point}
 use borrow.Author.Needs.{needs}
 use Rattle.recipe.proofs.points.point_count.Statement.{statement}
 use Rattle.recipe.proofs.points.point_count.Tie as tie

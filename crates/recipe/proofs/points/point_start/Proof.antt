@@ -2,7 +2,7 @@ use mathlib.Core.Path.{_≡_, refl}
 use Prim.Native.Nat.{_≤_, _<_, _+_}
 use native.Mathlib.Omega.{arith}
 use lib.ListN.{getD}
-use Rattle.recipe.proofs.Order.{same-from}
+use Rattle.recipe.proofs.PointOrder.{same-from}
 use Rattle.recipe.proofs.points.point_start.Statement.{statement}
 use Rattle.recipe.proofs.points.point_start.Tie as tie
 

@@ -18,35 +18,35 @@ loop-holds : tie.Need-loop-holds Inv-loop μ-loop
 unfolding firstBelow
 loop-holds c = (omega arith, refl)
 
-element-copy-out-bytes-in-range : tie.Need-element-copy-out-bytes-in-range Inv-loop μ-loop
-element-copy-out-bytes-in-range c = omega arith
+element-copy-out-in-range : tie.Need-element-copy-out-in-range Inv-loop μ-loop
+element-copy-out-in-range c = omega arith
 
-element-copy-out-bytes-in-range-2 : tie.Need-element-copy-out-bytes-in-range-2 Inv-loop μ-loop
-element-copy-out-bytes-in-range-2 c = omega arith
+element-copy-out-in-range-2 : tie.Need-element-copy-out-in-range-2 Inv-loop μ-loop
+element-copy-out-in-range-2 c = omega arith
 
-element-copy-out-bytes-in-range-3 : tie.Need-element-copy-out-bytes-in-range-3 Inv-loop μ-loop
-element-copy-out-bytes-in-range-3 c = omega arith
+element-copy-out-in-range-3 : tie.Need-element-copy-out-in-range-3 Inv-loop μ-loop
+element-copy-out-in-range-3 c = omega arith
 
-element-copy-out-bytes-in-range-4 : tie.Need-element-copy-out-bytes-in-range-4 Inv-loop μ-loop
-element-copy-out-bytes-in-range-4 c = omega arith
+element-copy-out-in-range-4 : tie.Need-element-copy-out-in-range-4 Inv-loop μ-loop
+element-copy-out-in-range-4 c = omega arith
 
-element-copy-out-bytes-in-range-5 : tie.Need-element-copy-out-bytes-in-range-5 Inv-loop μ-loop
-element-copy-out-bytes-in-range-5 c = omega arith
+element-copy-out-in-range-5 : tie.Need-element-copy-out-in-range-5 Inv-loop μ-loop
+element-copy-out-in-range-5 c = omega arith
 
-element-copy-out-bytes-in-range-6 : tie.Need-element-copy-out-bytes-in-range-6 Inv-loop μ-loop
-element-copy-out-bytes-in-range-6 c = omega arith
+element-copy-out-in-range-6 : tie.Need-element-copy-out-in-range-6 Inv-loop μ-loop
+element-copy-out-in-range-6 c = omega arith
 
-element-copy-out-bytes-in-range-7 : tie.Need-element-copy-out-bytes-in-range-7 Inv-loop μ-loop
-element-copy-out-bytes-in-range-7 c = omega arith
+element-copy-out-in-range-7 : tie.Need-element-copy-out-in-range-7 Inv-loop μ-loop
+element-copy-out-in-range-7 c = omega arith
 
-bytes-in-range-requires : tie.Need-bytes-in-range-requires Inv-loop μ-loop
-bytes-in-range-requires c κs = tt
+in-range-requires : tie.Need-in-range-requires Inv-loop μ-loop
+in-range-requires c κs = tt
 
 returns : tie.Need-returns Inv-loop μ-loop
 unfolding leavesRange
 returns c =
     let turn = c .before .before .before .before .before .before .before .before .before in
-    sym (first-hit _ _ _ (turn .loop-test .taken) (turn .before .loop .inv .1) (ap not (sym (c .before .bytes-in-range .ensures)) ∙ c .if1 .taken))
+    sym (first-hit _ _ _ (turn .loop-test .taken) (turn .before .loop .inv .1) (ap not (sym (c .before .in-range .ensures)) ∙ c .if1 .taken))
 
 add-i : tie.Need-add-i Inv-loop μ-loop
 add-i c = omega arith
@@ -58,7 +58,7 @@ loop-again : tie.Need-loop-again Inv-loop μ-loop
 unfolding leavesRange
 loop-again c =
     let turn = c .before .before .before .before .before .before .before .before .before in
-    (omega arith, first-more _ _ (turn .before .loop .inv .1) (ap not (sym (c .before .bytes-in-range .ensures)) ∙ c .if1 .left))
+    (omega arith, first-more _ _ (turn .before .loop .inv .1) (ap not (sym (c .before .in-range .ensures)) ∙ c .if1 .left))
 
 returns-2 : tie.Need-returns-2 Inv-loop μ-loop
 returns-2 c = first-end _ _ _ (c .before .loop .inv .0) (c .loop-test .left) (c .before .loop .inv .1)
@@ -70,14 +70,14 @@ first-out-of-range-spec =
     Inv-loop
     μ-loop
     loop-holds
-    element-copy-out-bytes-in-range
-    element-copy-out-bytes-in-range-2
-    element-copy-out-bytes-in-range-3
-    element-copy-out-bytes-in-range-4
-    element-copy-out-bytes-in-range-5
-    element-copy-out-bytes-in-range-6
-    element-copy-out-bytes-in-range-7
-    bytes-in-range-requires
+    element-copy-out-in-range
+    element-copy-out-in-range-2
+    element-copy-out-in-range-3
+    element-copy-out-in-range-4
+    element-copy-out-in-range-5
+    element-copy-out-in-range-6
+    element-copy-out-in-range-7
+    in-range-requires
     returns
     add-i
     loop-less

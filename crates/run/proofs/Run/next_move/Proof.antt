@@ -1,5 +1,5 @@
 use borrow.Author.Tests.{not-true, not-false}
-use Rattle.run.proofs.Judged.{table-judged}
+use Rattle.run.proofs.AcceptedRun.{table-judged}
 use Rattle.run.proofs.Answers.{passed, next-refused, next-shut, next-open}
 use borrow.Author.Needs.{needs}
 use Rattle.run.proofs.Run.next_move.Statement.{statement}
@@ -18,7 +18,7 @@ returns : tie.Need-returns
 returns c = next-refused _ _ _ _ _ (c .before .before .find-entry .ensures) (c .enum-told2 .given .1)
 
 is-open-requires : tie.Need-is-open-requires
-is-open-requires c κs = let j = table-judged _ _ _ _ (passed _ _ _ _ _ (c .before .before .find-entry .ensures) (c .enum-told .given .1)) in (j .cell-passes, (j .recipe-passes, j .point-below))
+is-open-requires c κs = let j = table-judged _ _ _ _ (passed _ _ _ _ _ (c .before .before .find-entry .ensures) (c .enum-told .given .1)) in (j .checked .cell-passes, (j .checked .recipe-passes, j .point-below))
 
 returns-2 : tie.Need-returns-2
 returns-2 c = next-shut _ _ _ _ _ (c .before .before .before .before .find-entry .ensures) (c .before .before .enum-told .given .1) _ (c .before .is-open .ensures) (not-true _ (c .if1 .taken))

@@ -3,7 +3,7 @@ use mathlib.Core.Bool.{true}
 use Prim.Native.Nat.{_≤_, _-_}
 use native.Mathlib.Omega.{arith}
 use Rattle.refusals.specs.Search.{allBelow}
-use Rattle.steps.proofs.Turns.{spare, spare-first, spare-more, spare-not, spare-all}
+use Rattle.steps.proofs.LoopTurns.{spare, spare-first, spare-more, spare-not, spare-all}
 use Rattle.steps.proofs.entry.is_unused.Statement.{statement}
 use Rattle.steps.proofs.entry.is_unused.Tie as tie
 

@@ -2,7 +2,7 @@ use mathlib.Core.Path.{_∙_}
 use mathlib.Core.Logic.{⊎-elim}
 use native.Mathlib.Omega.{arith}
 use borrow.Author.Needs.{needs}
-use Rattle.steps.proofs.Digits.{letter-at}
+use Rattle.steps.proofs.LetterDigits.{letter-at}
 use Rattle.steps.proofs.entry.letter.Statement.{statement}
 use Rattle.steps.proofs.entry.letter.Tie as tie
 

@@ -1,4 +1,4 @@
-use Rattle.tables.proofs.Leading.{judged-none, judged-zero, judged-long, judged-digit, leading-within}
+use Rattle.tables.proofs.LeadingDigits.{judged-none, judged-zero, judged-long, judged-digit, leading-within}
 use native.Mathlib.Omega.{arith}
 use Rattle.tables.proofs.digits.judge.Statement.{statement}
 use Rattle.tables.proofs.digits.judge.Tie as tie

@@ -1,5 +1,5 @@
 use native.Mathlib.Omega.{arith}
-use Rattle.tables.proofs.Leading.{written, leading-within, field-none, field-end, field-differs, field-good}
+use Rattle.tables.proofs.LeadingDigits.{written, leading-within, field-none, field-end, field-differs, field-good}
 use Rattle.tables.proofs.digits.read_field.Statement.{statement}
 use Rattle.tables.proofs.digits.read_field.Tie as tie
 

@@ -1,7 +1,7 @@
 use Prim.Native.Nat.{_-_}
 use native.Mathlib.Omega.{arith}
 use lib.ListN.{length}
-use Rattle.tables.proofs.Leading.{Read, read-none, read-more, read-room, read-stop, read-long, leading-none, leading-end, digit-low, digit-high, digit-is}
+use Rattle.tables.proofs.LeadingDigits.{Read, read-none, read-more, read-room, read-stop, read-long, leading-none, leading-end, digit-low, digit-high, digit-is}
 use Rattle.tables.proofs.digits.read_number.Statement.{statement}
 use Rattle.tables.proofs.digits.read_number.Tie as tie
 

@@ -3,8 +3,8 @@ use mathlib.Core.Path.{_≡_, ap, _∙_}
 use native.Mathlib.Omega.{arith}
 use lib.ListN.{length, drop}
 use Rattle.tables.specs.Lines.{upTo}
-use Rattle.tables.proofs.Pieces.{rest, line-within}
-use Rattle.tables.proofs.Walk.{Stands, stands-first, stands-next, found-past, found-end, found-line}
+use Rattle.tables.proofs.TextPieces.{rest, line-within}
+use Rattle.tables.proofs.LineWalk.{Stands, stands-first, stands-next, found-past, found-end, found-line}
 use Rattle.tables.proofs.lines.find_line.Statement.{statement}
 use Rattle.tables.proofs.lines.find_line.Tie as tie
 

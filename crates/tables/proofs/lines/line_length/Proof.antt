@@ -3,7 +3,7 @@ use mathlib.Core.Path.{_≡_}
 use native.Mathlib.Omega.{arith}
 use lib.ListN.{length, drop}
 use Rattle.tables.specs.Lines.{upTo}
-use Rattle.tables.proofs.Pieces.{upTo-stop, upTo-more, upTo-end}
+use Rattle.tables.proofs.TextPieces.{upTo-stop, upTo-more, upTo-end}
 use Rattle.tables.proofs.lines.line_length.Statement.{statement}
 use Rattle.tables.proofs.lines.line_length.Tie as tie
 

@@ -2,7 +2,7 @@ use mathlib.Core.Path.{_≡_, ap, _∙_}
 use native.Mathlib.Omega.{arith}
 use lib.ListN.{length, drop}
 use Rattle.tables.specs.Lines.{upTo}
-use Rattle.tables.proofs.Pieces.{rest, next-some, next-none, line-within}
+use Rattle.tables.proofs.TextPieces.{rest, next-some, next-none, line-within}
 use borrow.Author.Needs.{needs}
 use Rattle.tables.proofs.lines.next_line.Statement.{statement}
 use Rattle.tables.proofs.lines.next_line.Tie as tie

@@ -3,8 +3,8 @@ use mathlib.Core.Path.{_≡_, ap, _∙_}
 use native.Mathlib.Omega.{arith}
 use lib.ListN.{drop}
 use Rattle.tables.specs.Reading.{fieldOf}
-use Rattle.tables.proofs.Pieces.{rest}
-use Rattle.tables.proofs.Fields.{Reads, reads-none, reads-broken, reads-more, reads-unended, reads-line, field-within}
+use Rattle.tables.proofs.TextPieces.{rest}
+use Rattle.tables.proofs.LineFields.{Reads, reads-none, reads-broken, reads-more, reads-unended, reads-line, field-within}
 use Rattle.tables.proofs.row.read_line.Statement.{statement}
 use Rattle.tables.proofs.row.read_line.Tie as tie
 

@@ -3,9 +3,9 @@ use mathlib.Core.Path.{_≡_, refl, ap, _∙_}
 use native.Mathlib.Omega.{arith}
 use lib.ListN.{length, drop}
 use Rattle.tables.specs.Reading.{lineOf, Kept}
-use Rattle.tables.proofs.Pieces.{rest}
-use Rattle.tables.proofs.Judged.{Judges, judges-none, judges-more, judges-broken, judges-end, row-within}
-use Rattle.tables.proofs.Values.{line-number, kept-none, kept-length, kept-more, checked-broken, checked-whole}
+use Rattle.tables.proofs.TextPieces.{rest}
+use Rattle.tables.proofs.ValueLines.{Judges, judges-none, judges-more, judges-broken, judges-end, row-within}
+use Rattle.tables.proofs.KeptNumbers.{line-number, kept-none, kept-length, kept-more, checked-broken, checked-whole}
 use Rattle.tables.proofs.rules.check_lines.Statement.{statement}
 use Rattle.tables.proofs.rules.check_lines.Tie as tie
 

@@ -3,7 +3,7 @@ use mathlib.Core.Path.{_≡_, refl, sym, _∙_}
 use native.Mathlib.Omega.{arith}
 use lib.ListN.{length, drop}
 use Rattle.tables.specs.Table.{starts}
-use Rattle.tables.proofs.Names.{starts-more, starts-differs, starts-short, starts-whole}
+use Rattle.tables.proofs.NamesLine.{starts-more, starts-differs, starts-short, starts-whole}
 use Rattle.tables.proofs.rules.has_names.Statement.{statement}
 use Rattle.tables.proofs.rules.has_names.Tie as tie
 

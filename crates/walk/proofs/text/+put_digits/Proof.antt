@@ -2,7 +2,7 @@ use native.Mathlib.Omega.{arith}
 use mathlib.Core.Path.{ap, _∙_}
 use mathlib.Core.List.{[], _∷_, _++_}
 use Rattle.walk.specs.Text.{digitsOf}
-use Rattle.walk.proofs.Pieces.{put-nothing, put-then, put-same, digits-few, digits-none, digits-one, digits-more}
+use Rattle.walk.proofs.BufferPieces.{put-nothing, put-then, put-same, digits-few, digits-none, digits-one, digits-more}
 use Prim.Native.Nat.{ℕ, _<_, _-_, _/_}
 use borrow.Fn.Kinds.{In}
 use borrow.Fn.PlainCycle.{Measures, is, falls, and}

@@ -1,4 +1,4 @@
-use Rattle.walk.proofs.Pieces.{put-one}
+use Rattle.walk.proofs.BufferPieces.{put-one}
 use borrow.Author.Needs.{needs}
 use Rattle.walk.proofs.text.put_byte.Statement.{statement}
 use Rattle.walk.proofs.text.put_byte.Tie as tie

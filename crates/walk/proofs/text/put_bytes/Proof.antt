@@ -1,6 +1,6 @@
 use mathlib.Core.Path.{refl, _∙_}
 use lib.ListN.{length-take}
-use Rattle.walk.proofs.Pieces.{put-nothing, put-next, put-all}
+use Rattle.walk.proofs.BufferPieces.{put-nothing, put-next, put-all}
 use Prim.Native.Nat.{_-_, _+_, _≤_}
 use mathlib.Core.Path.{_≡_}
 use native.Mathlib.Omega.{arith}

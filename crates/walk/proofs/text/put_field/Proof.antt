@@ -1,6 +1,6 @@
 use native.Mathlib.Omega.{arith}
 use Rattle.walk.specs.Text.{field}
-use Rattle.walk.proofs.Pieces.{put-then, digits-few}
+use Rattle.walk.proofs.BufferPieces.{put-then, digits-few}
 use borrow.Author.Needs.{needs}
 use Rattle.walk.proofs.text.put_field.Statement.{statement}
 use Rattle.walk.proofs.text.put_field.Tie as tie

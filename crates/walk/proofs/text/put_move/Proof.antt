@@ -1,6 +1,6 @@
 use native.Mathlib.Omega.{arith}
 use Rattle.walk.specs.Text.{moveLine}
-use Rattle.walk.proofs.Pieces.{put-then, field-few}
+use Rattle.walk.proofs.BufferPieces.{put-then, field-few}
 use borrow.Author.Needs.{needs}
 use Rattle.walk.proofs.text.put_move.Statement.{statement}
 use Rattle.walk.proofs.text.put_move.Tie as tie

@@ -1,5 +1,5 @@
 use Rattle.walk.specs.Text.{refusalLine}
-use Rattle.walk.proofs.Pieces.{put-then}
+use Rattle.walk.proofs.BufferPieces.{put-then}
 use borrow.Author.Needs.{needs}
 use Rattle.walk.proofs.text.put_refusal.Statement.{statement}
 use Rattle.walk.proofs.text.put_refusal.Tie as tie

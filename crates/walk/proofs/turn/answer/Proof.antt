@@ -1,7 +1,7 @@
 use native.Mathlib.Omega.{arith}
 use mathlib.Core.Path.{ap}
 use Rattle.run.specs.declared.Move.{Move}
-use Rattle.walk.proofs.Answers.{byte-below, byte-above, report-made, report-refused}
+use Rattle.walk.proofs.ByteAnswers.{byte-below, byte-above, report-made, report-refused}
 use borrow.Author.Needs.{needs}
 use Rattle.walk.proofs.turn.answer.Statement.{statement}
 use Rattle.walk.proofs.turn.answer.Tie as tie

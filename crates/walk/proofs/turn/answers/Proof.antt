@@ -5,7 +5,7 @@ use native.Mathlib.Omega.{arith}
 use lib.ListN.{length, take}
 use borrow.Author.Tests.{not-true, not-false}
 use Rattle.walk.specs.Turn.{Answers}
-use Rattle.walk.proofs.Parts.{answers-none, answers-next, answers-few, answers-ended, answers-all}
+use Rattle.walk.proofs.InputInParts.{answers-none, answers-next, answers-few, answers-ended, answers-all}
 use Rattle.walk.proofs.turn.answers.Statement.{statement}
 use Rattle.walk.proofs.turn.answers.Tie as tie
 

@@ -2,9 +2,9 @@ use mathlib.Core.Path.{sym, ap, _∙_}
 use borrow.Author.Tests.{not-false, not-true}
 use Rattle.positions.specs.declared.Sizes.{Sizes}
 use Rattle.positions.specs.Position.{positionOf}
-use Rattle.positions.specs.Rules.{checkRecords, isPosition}
-use Rattle.refusals.proofs.Verdicts.{first-accepts, next-accepts}
-use Rattle.walk.proofs.Located.{no-records, no-position, at-position}
+use Rattle.positions.specs.Rules.{isPosition}
+use Rattle.positions.proofs.AcceptedRecords.{both-ok}
+use Rattle.walk.proofs.RunPosition.{no-records, no-position, at-position}
 use borrow.Author.Needs.{needs}
 use Rattle.walk.proofs.turn.position_of.Statement.{statement}
 use Rattle.walk.proofs.turn.position_of.Tie as tie
@@ -24,8 +24,7 @@ returns c =
     no-records (s .cell) (s .recipe) (s .run) _ (c .before .before .check-records .ensures) (c .enum-told2 .given .1)
 
 measure-requires : tie.Need-measure-requires
-unfolding checkRecords
-measure-requires c κs = let e = sym (c .before .before .check-records .ensures) ∙ c .enum-told .given .1 in (first-accepts _ _ e, next-accepts _ _ e)
+measure-requires c κs = both-ok _ _ (sym (c .before .before .check-records .ensures) ∙ c .enum-told .given .1)
 
 is-position-requires : tie.Need-is-position-requires
 is-position-requires c κs = search needs

@@ -1,0 +1,129 @@
+-- Decoding what was encoded gives it back, whatever bytes follow; and encoding the run that was decoded gives its bytes back.
+-- Assumes nothing.
+use mathlib.Core.Path.{_≡_, refl, sym, ap, _∙_}
+use mathlib.Core.Logic.{⊎-elim}
+use mathlib.Core.List.{List, _∷_, _++_}
+use Prim.Native.Nat.{ℕ, zero, suc, _+_, _*_, _<_, _≤_}
+use native.Mathlib.Nat.{le-of-suc-le-suc, eq-or-lt-of-le, not-suc-le-zero, mul-le-mul-right}
+use native.Mathlib.Omega.{arith}
+use lib.ListN.{length, getD, take, length-append, List·getD-append}
+use lib.Seq.{getD-append-add, getD-take, length-take-le}
+use borrow.Author.Tests.{le-ltb}
+use Rattle.refusals.specs.Search.{tabulate}
+use Rattle.refusals.proofs.TabulatedLists.{tabulate-is}
+use Rattle.cell.specs.declared.Cell.{Cell}
+use Rattle.recipe.specs.declared.Recipe.{Recipe}
+use Rattle.positions.specs.declared.Configuration.{Configuration}
+use Rattle.run.specs.declared.Run.{Run}
+use Rattle.capi.specs.Encoding.{rowsOf, cellRow, cellBytes, recipeRow, recipeBytes, columnOf, cellFrom, recipeFrom, runBytes, runFrom}
+use Rattle.capi.proofs.ByteRows.{rows-length}
+
+module _ (row : ℕ → List ℕ) (k : ℕ) (wide : (n : ℕ) → length (row n) ≡ k) where
+  -- a byte of a row stands behind the bytes of the rows before it
+  row-at : (m n i : ℕ) → n < m → i < k → getD (rowsOf row m) (n * k + i) 0 ≡ getD (row n) i 0
+  unfolding rowsOf
+  row-at zero n i low inside = absurd (not-suc-le-zero low)
+  row-at (suc m) n i low inside = ⊎-elim last (λ less. earlier less (row-at m n i less inside)) (eq-or-lt-of-le (le-of-suc-le-suc low))
+    where
+      size : length (rowsOf row m) ≡ m * k
+      size = omega (arith, rows-length row k wide m)
+
+      last : n ≡ m → getD (rowsOf row m ++ row m) (n * k + i) 0 ≡ getD (row n) i 0
+      last e =
+          rw e (ap (λ (s : ℕ). getD (rowsOf row m ++ row m) (s + i) 0) (sym size) ∙ getD-append-add (rowsOf row m) (row m) i 0)
+
+      earlier : n < m → getD (rowsOf row m) (n * k + i) 0 ≡ getD (row n) i 0 → getD (rowsOf row m ++ row m) (n * k + i) 0 ≡ getD (row n) i 0
+      earlier less here = List·getD-append (rowsOf row m) (row m) 0 (n * k + i) (omega (arith, size, mul-le-mul-right k less)) ∙ here
+
+  -- so the column of a record's field is read back, from the rows of a record and whatever follows
+  column-back :
+      (count : ℕ) (rest : List ℕ) (i : ℕ) (column : List ℕ)
+      → i < k
+      → length column ≡ 64
+      → ((n : ℕ) → getD (row n) i 0 ≡ getD column n 0)
+      → columnOf k ((count ∷ rowsOf row 64) ++ rest) i ≡ column
+  unfolding columnOf
+  column-back count rest i column inside size same =
+      tabulate-is _ column 64 size (λ n low. ap (λ (m : ℕ). getD ((count ∷ rowsOf row 64) ++ rest) m 0) (place n) ∙ List·getD-append (rowsOf row 64) rest 0 (n * k + i) (within n low) ∙ row-at 64 n i low inside ∙ same n)
+    where
+      place : (n : ℕ) → 1 + n * k + i ≡ suc (n * k + i)
+      place n = omega arith
+
+      within : (n : ℕ) → n < 64 → n * k + i < length (rowsOf row 64)
+      within n low = omega (arith, rows-length row k wide 64, mul-le-mul-right k low)
+
+-- a cell record as it stands in memory: every column has 64 lines
+pub record WholeCell (c : Cell) : Type 0 where
+  pub resource : length (c .resource) ≡ 64
+  pub from : length (c .from) ≡ 64
+  pub act : length (c .act) ≡ 64
+  pub arg : length (c .arg) ≡ 64
+  pub to : length (c .to) ≡ 64
+
+pub cell-back : (c : Cell) (rest : List ℕ) → WholeCell c → cellFrom (cellBytes c ++ rest) ≡ c
+unfolding cellFrom cellBytes cellRow
+cell-back c rest whole =
+    let wide : (n : ℕ) → length (cellRow c n) ≡ 5 = λ n. refl in
+    let long : 321 ≤ length ((c .count ∷ rowsOf (cellRow c) 64) ++ rest) = omega (arith, length-append (c .count ∷ rowsOf (cellRow c) 64) rest, rows-length (cellRow c) 5 wide 64) in
+    rw (le-ltb _ 321 long) (λ i. record {
+      count = c .count;
+      resource = column-back (cellRow c) 5 wide (c .count) rest 0 (c .resource) (omega arith) (whole .resource) (λ n. refl) i;
+      from = column-back (cellRow c) 5 wide (c .count) rest 1 (c .from) (omega arith) (whole .from) (λ n. refl) i;
+      act = column-back (cellRow c) 5 wide (c .count) rest 2 (c .act) (omega arith) (whole .act) (λ n. refl) i;
+      arg = column-back (cellRow c) 5 wide (c .count) rest 3 (c .arg) (omega arith) (whole .arg) (λ n. refl) i;
+      to = column-back (cellRow c) 5 wide (c .count) rest 4 (c .to) (omega arith) (whole .to) (λ n. refl) i;
+    })
+
+-- the same of a recipe record
+pub record WholeRecipe (r : Recipe) : Type 0 where
+  pub point : length (r .point) ≡ 64
+  pub kind : length (r .kind) ≡ 64
+  pub op : length (r .op) ≡ 64
+  pub takes : length (r .takes) ≡ 64
+  pub gives : length (r .gives) ≡ 64
+  pub then : length (r .then) ≡ 64
+  pub otherwise : length (r .otherwise) ≡ 64
+
+pub recipe-back : (r : Recipe) (rest : List ℕ) → WholeRecipe r → recipeFrom (recipeBytes r ++ rest) ≡ r
+unfolding recipeFrom recipeBytes recipeRow
+recipe-back r rest whole =
+    let wide : (n : ℕ) → length (recipeRow r n) ≡ 7 = λ n. refl in
+    let long : 449 ≤ length ((r .count ∷ rowsOf (recipeRow r) 64) ++ rest) = omega (arith, length-append (r .count ∷ rowsOf (recipeRow r) 64) rest, rows-length (recipeRow r) 7 wide 64) in
+    rw (le-ltb _ 449 long) (λ i. record {
+      count = r .count;
+      point = column-back (recipeRow r) 7 wide (r .count) rest 0 (r .point) (omega arith) (whole .point) (λ n. refl) i;
+      kind = column-back (recipeRow r) 7 wide (r .count) rest 1 (r .kind) (omega arith) (whole .kind) (λ n. refl) i;
+      op = column-back (recipeRow r) 7 wide (r .count) rest 2 (r .op) (omega arith) (whole .op) (λ n. refl) i;
+      takes = column-back (recipeRow r) 7 wide (r .count) rest 3 (r .takes) (omega arith) (whole .takes) (λ n. refl) i;
+      gives = column-back (recipeRow r) 7 wide (r .count) rest 4 (r .gives) (omega arith) (whole .gives) (λ n. refl) i;
+      then = column-back (recipeRow r) 7 wide (r .count) rest 5 (r .then) (omega arith) (whole .then) (λ n. refl) i;
+      otherwise = column-back (recipeRow r) 7 wide (r .count) rest 6 (r .otherwise) (omega arith) (whole .otherwise) (λ n. refl) i;
+    })
+
+-- a configuration as it stands in memory: six states and eight places
+pub record Whole (a : Configuration) : Type 0 where
+  pub six : length (a .state) ≡ 6
+  pub eight : length (a .place) ≡ 8
+
+pub run-length : (run : Run) → length (runBytes run) ≡ 15
+unfolding runBytes tabulate
+run-length run = refl
+
+pub run-back : (run : Run) (rest : List ℕ) → Whole (run .configuration) → runFrom (runBytes run ++ rest) ≡ run
+unfolding runFrom runBytes tabulate
+run-back run rest whole =
+    let long : 15 ≤ length (runBytes run ++ rest) = omega (arith, length-append (runBytes run) rest) in
+    rw (le-ltb _ 15 long) (λ i. record {
+      point = run .point;
+      configuration = record {
+        state = tabulate-is (λ k. getD (run .configuration .state) k 0) (run .configuration .state) 6 (whole .six) (λ k low. refl) i;
+        place = tabulate-is (λ n. getD (run .configuration .place) n 0) (run .configuration .place) 8 (whole .eight) (λ n low. refl) i;
+      };
+    })
+
+-- a run that was decoded is encoded as the bytes that held it
+pub run-bytes-back : (bytes : List ℕ) → 15 ≤ length bytes → runBytes (runFrom bytes) ≡ take 15 bytes
+unfolding runFrom runBytes tabulate
+run-bytes-back bytes long =
+    rw (le-ltb (length bytes) 15 long)
+    (tabulate-is (λ n. getD bytes n 0) (take 15 bytes) 15 (length-take-le 15 bytes long) (λ n low. sym (getD-take 15 bytes n 0 low)))

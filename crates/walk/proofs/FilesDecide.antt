@@ -1,0 +1,112 @@
+-- What the files and the plan come to, by where it was refused. Assumes nothing.
+use mathlib.Core.Path.{_≡_, refl, sym, ap, subst, _∙_}
+use mathlib.Core.List.{List, [], _∷_}
+use Prim.Native.Nat.{ℕ}
+use native.Mathlib.Omega.{arith}
+use lib.ListN.{length, take, length-take}
+use lib.Seq.{take-all}
+use Rattle.refusals.specs.declared.Refusal.{Refusal}
+use Rattle.refusals.specs.Refusal.{numberOf}
+use Rattle.refusals.specs.declared.Verdict.{Verdict}
+use Rattle.refusals.specs.declared.Verdict.the-variants.{Accepted, Refused}
+use Rattle.refusals.specs.Verdict.{firstRefusal}
+use Rattle.cell.specs.declared.CellReading.{CellReading}
+use Rattle.cell.specs.Reader.{readCell}
+use Rattle.recipe.specs.declared.RecipeReading.{RecipeReading}
+use Rattle.recipe.specs.Reader.{readRecipe}
+use Rattle.planner.specs.Call.{PlanCall}
+use Rattle.refusals.proofs.Rules.{first-accepts, rest-accepts, decides}
+use Rattle.walk.specs.Text.{refusalLine, Put}
+use Rattle.walk.specs.Output.{below, CellRead, RecipeRead, Prepared}
+
+-- a buffer of 8192 bytes holds the start of a file
+in-start : (n : ℕ) (start : List ℕ) → length start ≡ 8192 → take 8192 (take n start) ≡ take n start
+in-start n start long = take-all 8192 (take n start) (omega (arith, length-take n start))
+
+pub cell-start : {reading : CellReading} (n : ℕ) (start : List ℕ) → length start ≡ 8192 → reading ≡ readCell (take n start) → CellRead reading
+cell-start n start long is = (take n start, is ∙ ap readCell (sym (in-start n start long)))
+
+pub recipe-start : {reading : RecipeReading} (n : ℕ) (start : List ℕ) → length start ≡ 8192 → reading ≡ readRecipe (take n start) → RecipeRead reading
+recipe-start n start long is = (take n start, is ∙ ap readRecipe (sym (in-start n start long)))
+
+-- the recipe that is not read
+pub recipe-none : {reading : RecipeReading} → reading ≡ readRecipe [] → RecipeRead reading
+recipe-none is = ([], is)
+
+-- how many bytes are handed over below the first line
+pub none-handed : {verdict : Verdict} → verdict ≡ Accepted → 0 ≡ length (below verdict [])
+unfolding below
+none-handed is = rw is
+
+pub line-handed : {verdict : Verdict} {refusal : Refusal} {line number end handed : ℕ} {entry exit : List ℕ} → verdict ≡ Refused refusal line → number ≡ numberOf refusal
+    → Put entry exit 0 (refusalLine number) end
+    → handed ≡ length (take end exit)
+    → handed ≡ length (below verdict [])
+unfolding below
+line-handed is numbered put whole =
+    whole ∙ ap (λ (l : List ℕ). length l) (put .bytes-are ∙ ap refusalLine numbered) ∙ ap (λ (v : Verdict). length (below v [])) (sym is)
+
+-- a verdict that refuses leaves nothing to the next
+no-next : (v w x : Verdict) {refusal : Refusal} {line : ℕ} → firstRefusal (v ∷ w ∷ []) ≡ Refused refusal line → firstRefusal (v ∷ w ∷ []) ≡ firstRefusal (v ∷ w ∷ x ∷ [])
+unfolding firstRefusal
+no-next Accepted Accepted x is = cc
+no-next Accepted (Refused refusal line) x is = refl
+no-next (Refused refusal line) w x is = refl
+
+refused-not : {v : Verdict} {refusal : Refusal} {line : ℕ} → v ≡ Refused refusal line → v ≡ Accepted → ⊥
+refused-not e f = let z : _≡_ {A = ℕ} 0 1 = cc in omega arith
+
+accepts-both : {v w : Verdict} (x : Verdict) → v ≡ Accepted → w ≡ Accepted → x ≡ firstRefusal (v ∷ w ∷ x ∷ [])
+unfolding firstRefusal
+accepts-both x e f = rw (e, f) (decides refl)
+
+module _ (table : List ℕ) (cell : CellReading) (recipe : RecipeReading) (cell-read : CellRead cell) (recipe-read : RecipeRead recipe) where
+  judged-is : firstRefusal (cell .verdict ∷ recipe .verdict ∷ []) ≡ firstRefusal (readCell (take 8192 (cell-read .0)) .verdict ∷ readRecipe (take 8192 (recipe-read .0)) .verdict ∷ [])
+  judged-is = λ i. firstRefusal (cell-read .1 i .verdict ∷ recipe-read .1 i .verdict ∷ [])
+
+  pub prepared-refused : (verdict : Verdict) {refusal : Refusal} {line : ℕ} → verdict ≡ firstRefusal (cell .verdict ∷ recipe .verdict ∷ []) → verdict ≡ Refused refusal line
+      → Prepared table (record { verdict = verdict; cell = cell .cell; recipe = recipe .recipe })
+  unfolding firstRefusal
+  prepared-refused verdict is told =
+      let judged = is ∙ judged-is in
+      record {
+        cellFile = cell-read .0;
+        recipeFile = recipe-read .0;
+        decided =
+            record {
+              plan = Accepted;
+              verdict-is = judged ∙ no-next (readCell (take 8192 (cell-read .0)) .verdict) (readRecipe (take 8192 (recipe-read .0)) .verdict) Accepted (sym judged ∙ told);
+              planned = λ first second. absurd (refused-not told (judged ∙ (λ i. firstRefusal (first i ∷ second i ∷ []))));
+            };
+        cell-is = ap (λ (x : CellReading). x .cell) (cell-read .1);
+        recipe-is = ap (λ (x : RecipeReading). x .recipe) (recipe-read .1);
+      }
+
+  pub prepared-planned : (verdict plan : Verdict) (entry scratch scratch′ : List ℕ) → verdict ≡ firstRefusal (cell .verdict ∷ recipe .verdict ∷ []) → verdict ≡ Accepted
+      → length entry ≡ 8192
+      → length scratch ≡ 8192
+      → PlanCall (cell .cell) (recipe .recipe) entry scratch table scratch′ plan
+      → Prepared table (record { verdict = plan; cell = cell .cell; recipe = recipe .recipe })
+  prepared-planned verdict plan entry scratch scratch′ is told long wide call =
+      let accepted = sym (is ∙ judged-is) ∙ told in
+      record {
+        cellFile = cell-read .0;
+        recipeFile = recipe-read .0;
+        decided =
+            record {
+              plan = plan;
+              verdict-is = accepts-both plan (first-accepts _ _ accepted) (first-accepts _ _ (rest-accepts _ _ accepted));
+              planned =
+                  λ first second. record {
+                    table = entry;
+                    scratch = scratch;
+                    scratch′ = scratch′;
+                    table-places = long;
+                    scratch-places = wide;
+                    call = subst (λ (x : CellReading). PlanCall (x .cell) (readRecipe (take 8192 (recipe-read .0)) .recipe) entry scratch table scratch′ plan) (cell-read .1)
+                        (subst (λ (x : RecipeReading). PlanCall (cell .cell) (x .recipe) entry scratch table scratch′ plan) (recipe-read .1) call);
+                  };
+            };
+        cell-is = ap (λ (x : CellReading). x .cell) (cell-read .1);
+        recipe-is = ap (λ (x : RecipeReading). x .recipe) (recipe-read .1);
+      }

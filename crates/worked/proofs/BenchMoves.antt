@@ -1,0 +1,49 @@
+-- The bench example's sizes and moves, computed. Assumes nothing.
+use mathlib.Core.Path.{_≡_, refl}
+use Rattle.refusals.specs.Search.{firstBelow, anyBelow, allBelow, countBelow, greatestBelow, tabulate}
+use Rattle.cell.specs.Rules.{isOf, greatestResource}
+use Rattle.recipe.specs.Rules.{samePoint, holdsPart, opensPoint, pointCount}
+use Rattle.positions.specs.Radix.{sumBelow, productBelow}
+use Rattle.positions.specs.Sizes.{resourceCount, farthest, stateCount, stateCounts, partsIn, partCount, jointCount, sizesFor}
+use Rattle.positions.specs.Position.{stateWeight, stateNumber, placeNumber, positionOf, pointAt, stateAt, placeAt, configurationAt}
+use Rattle.steps.specs.Lines.{isAt, firstLineOf, linesOf, kindOf, thenOf, elseOf, lineOf, inAny, isTaken, isGiven}
+use Rattle.steps.specs.Joint.{mayDo, acts, actsOn, howMany, portFits, isStep, isSilent, isSilentStep, stateAfter, receiver, handed, placeAfter, after}
+use Rattle.steps.specs.Carry.{serves, matches, standsAt, present, isFree, free, carriesDo, carriesTest, carries, putThere, placed, partsMoved, afterCarry}
+use Rattle.steps.specs.Entry.{entryKind, letter, unused, lettersUsed, isLine, isFormed, only, stepOf, mayBeTaken}
+use Rattle.steps.specs.Effect.{taken, effect, isMove, opens, leaves, makes, leadsTo}
+use Rattle.worked.specs.Moves.{filled, benchCell, benchRecipe, benchSizes, next}
+
+pub record Moves : Type 0 where
+  -- "J 6, W 3, M 90"
+  pub joint-states : benchSizes .joint ≡ 6
+  pub ways : benchSizes .ways ≡ 3
+  pub positions : benchSizes .positions ≡ 90
+  -- ‡ "these four moves", the test at 26 with outcome 1
+  pub glued : next 0 50331648 0 ≡ 22
+  pub passed-on : next 22 33554561 0 ≡ 26
+  pub tested : next 26 50331651 1 ≡ 50
+  pub left : next 50 50331652 0 ≡ 72
+  -- ‡ "test outcome 0 gives 68"
+  pub failed : next 26 50331651 0 ≡ 68
+  -- ‡ "68 leads to 0"
+  pub taken-out : next 68 50331652 0 ≡ 0
+
+pub moves : Moves
+unfolding firstBelow anyBelow allBelow countBelow greatestBelow tabulate isOf greatestResource samePoint holdsPart opensPoint pointCount sumBelow
+    productBelow resourceCount farthest stateCount stateCounts partsIn partCount jointCount sizesFor stateWeight stateNumber placeNumber positionOf
+    pointAt stateAt placeAt configurationAt isAt firstLineOf linesOf kindOf thenOf elseOf lineOf inAny isTaken isGiven filled benchCell benchRecipe
+    benchSizes next mayDo acts actsOn howMany portFits isStep isSilent isSilentStep stateAfter receiver handed placeAfter after serves matches
+    standsAt present isFree free carriesDo carriesTest carries putThere placed partsMoved afterCarry entryKind letter unused lettersUsed isLine
+    isFormed only stepOf mayBeTaken taken effect isMove opens leaves makes leadsTo
+moves =
+    record {
+      joint-states = refl;
+      ways = refl;
+      positions = refl;
+      glued = refl;
+      passed-on = refl;
+      tested = refl;
+      left = refl;
+      failed = refl;
+      taken-out = refl;
+    }

@@ -1,0 +1,113 @@
+-- Where one move alone is open, every plan has it. Assumes nothing.
+use mathlib.Core.Path.{_≡_, sym, subst, ap, _∙_}
+use mathlib.Core.Logic.{⊎-elim}
+use mathlib.Core.Bool.{Bool, true, false, not, _&&_, _||_}
+use mathlib.Core.List.{List, [], _∷_}
+use Prim.Native.Nat.{ℕ, _+_, _*_, _<_}
+use lib.ListN.{getD}
+use lib.Dec.{eqb}
+use borrow.Author.Tests.{eqb-true}
+use Rattle.refusals.specs.declared.Verdict.the-variants.{Accepted}
+use Rattle.refusals.specs.Search.{allBelow}
+use Rattle.refusals.proofs.EveryBelow.{all-at}
+use Rattle.refusals.proofs.TabulatedLists.{length-tabulate}
+use Rattle.refusals.proofs.Verdicts.{and-left, and-right}
+use Rattle.cell.specs.declared.Cell.{Cell}
+use Rattle.cell.specs.Rules.{checkCell}
+use Rattle.recipe.specs.declared.Recipe.{Recipe}
+use Rattle.recipe.specs.Rules.{checkRecipe}
+use Rattle.positions.specs.declared.Configuration.{Configuration}
+use Rattle.positions.specs.Sizes.{sizesOf}
+use Rattle.positions.specs.Position.{pointAt, configurationAt, entryOf}
+use Rattle.positions.proofs.PositionNumbers.{position-fits, number-back}
+use Rattle.positions.proofs.SizeBounds.{fitting}
+use Rattle.steps.specs.Lines.{linesOf, kindOf}
+use Rattle.steps.specs.Entry.{entryKind, letter, isFormed}
+use Rattle.steps.specs.Effect.{opens}
+use Rattle.steps.proofs.OpenByKind.{opens-joint}
+use Rattle.steps.proofs.Effects.{formed-kind}
+use Rattle.steps.proofs.EntryForms.{formed-internal, formed-transfer, formed-carry}
+use Rattle.run.specs.Book.{asks, opened}
+use Rattle.simulation.specs.Simulation.{Position, Greatest}
+use Rattle.simulation.specs.Plan.{Planned}
+use Rattle.simulation.proofs.BookBySingles.{book-is}
+use Rattle.worked.proofs.BenchPlan.{plan-opens}
+
+-- if the entry is open, it is x
+unfoldable pub isSole : Bool → ℕ → ℕ → Bool
+isSole able e x = not able || eqb e x
+
+-- no move but x is open at the point, which has one line, and the configuration
+unfoldable pub soleAt : Cell → Recipe → ℕ → Configuration → ℕ → Bool
+soleAt c r p a x =
+    allBelow (λ l. isSole (opens c r p a (16777216 + l)) (16777216 + l) x) (c .count)
+    && (allBelow (λ l. allBelow (λ k. isSole (opens c r p a (33554432 + l + 64 * k)) (33554432 + l + 64 * k) x) (c .count)) (c .count)
+    && allBelow (λ l. isSole (opens c r p a (50331648 + l)) (50331648 + l) x) (c .count))
+
+sole-is : (able : Bool) (e x : ℕ) → isSole able e x ≡ true → able ≡ true → e ≡ x
+unfolding isSole
+sole-is true e x test is = eqb-true e x test
+sole-is false e x test is = cc
+
+-- the only open move
+module _ (c : Cell) (r : Recipe) (p : ℕ) (a : Configuration) (e x : ℕ) (one : linesOf r p ≡ 1) (some : kindOf r p ≡ 0 → ⊥) where
+  sole-open : soleAt c r p a x ≡ true → opens c r p a e ≡ true → e ≡ x
+  unfolding soleAt
+  sole-open test able = ⊎-elim internal (⊎-elim transfer carry) (formed-kind c r p e formed)
+    where
+      formed : isFormed c r p e ≡ true
+      formed = and-left _ _ (sym (opens-joint c r p a e some) ∙ able)
+
+      open-at : (k : ℕ) → e ≡ k → isSole (opens c r p a k) k x ≡ true → e ≡ x
+      open-at k is sole = is ∙ sole-is (opens c r p a k) k x sole (subst (λ (j : ℕ). opens c r p a j ≡ true) is able)
+
+      internal : entryKind e ≡ 1 → e ≡ x
+      internal kind =
+          let listed = formed-internal c r p e formed kind in
+          open-at _ (listed .1) (all-at (λ l. isSole (opens c r p a (16777216 + l)) (16777216 + l) x) (c .count) (letter e 0) (and-left _ _ test) (listed .0))
+
+      transfer : entryKind e ≡ 2 → e ≡ x
+      transfer kind =
+          let listed = formed-transfer c r p e formed kind in
+          let row = all-at (λ l. allBelow (λ k. isSole (opens c r p a (33554432 + l + 64 * k)) (33554432 + l + 64 * k) x) (c .count)) (c .count) (letter e 0) (and-left _ _ (and-right (allBelow (λ l. isSole (opens c r p a (16777216 + l)) (16777216 + l) x) (c .count)) _ test)) (listed .0) in
+          open-at _ (listed .2) (all-at (λ k. isSole (opens c r p a (33554432 + letter e 0 + 64 * k)) (33554432 + letter e 0 + 64 * k) x) (c .count) (letter e 1) row (listed .1))
+
+      carry : entryKind e ≡ 3 → e ≡ x
+      carry kind =
+          let listed = formed-carry c r p e formed one kind in
+          open-at _ (listed .1) (all-at (λ l. isSole (opens c r p a (50331648 + l)) (50331648 + l) x) (c .count) (letter e 0) (search (and-left, and-right)) (listed .0))
+
+-- position m is in the greatest simulation, and has one open move: so every plan has it there
+module _
+    (c : Cell) (r : Recipe) (ok : checkCell c ≡ Accepted) (fine : checkRecipe r ≡ Accepted)
+    (before table : List ℕ) (refused : Bool) (plan : Planned c r before table refused)
+    (m : ℕ) (low : m < sizesOf c r .positions)
+  where
+    abbrev point : ℕ
+    point = pointAt (sizesOf c r) m
+
+    abbrev configuration : Configuration
+    configuration = configurationAt (sizesOf c r) m
+
+    pub here : Position c r point configuration
+    unfolding configurationAt
+    here = record { in-range = position-fits (sizesOf c r) (fitting c r ok fine) m low; six = length-tabulate _ 6; eight = length-tabulate _ 8 }
+
+    pub entry-at : entryOf c r table point configuration ≡ getD table m 0
+    unfolding entryOf
+    entry-at = ap (λ (k : ℕ). getD table k 0) (number-back (sizesOf c r) (fitting c r ok fine) m low)
+
+    pub forced :
+        (x : ℕ)
+        → Greatest c r point configuration
+        → (kindOf r point ≡ 0 → ⊥)
+        → linesOf r point ≡ 1
+        → soleAt c r point configuration x ≡ true
+        → getD table m 0 ≡ x
+    unfolding opened
+    forced x held some one sole =
+        let alive : entryOf c r table point configuration ≡ 0 → ⊥ = λ zero. plan .zero-lacks point configuration here zero held in
+        let able : opens c r point configuration (entryOf c r table point configuration) ≡ true =
+        sym (book-is c r ok fine .open-is (opened point configuration) (entryOf c r table point configuration))
+        ∙ plan-opens c r table point configuration (plan .promises point configuration here alive (asks ∷ [])) in
+        sym entry-at ∙ sole-open c r point configuration (entryOf c r table point configuration) x one some sole able
