@@ -10,7 +10,7 @@ ghost use Rattle.recipe.specs.Reader.{readRecipe};
 ghost use Rattle.refusals.specs.declared.Verdict.the-variants.{Accepted};
 ghost use Rattle.refusals.specs.Verdict.{refusalIn};
 ghost use Rattle.positions.specs.Rules.{checkSizes};
-ghost use Rattle.run.specs.Calls.{freshRun, nextMove, reportOf, placeOf};
+ghost use Rattle.run.specs.Calls.{freshRun, nextMove, reportOf, partPlace};
 ghost use Rattle.capi.specs.Encoding.{codeOf, cellBytes, recipeBytes, cellFrom, recipeFrom, runBytes, runFrom};
 ghost use Rattle.capi.specs.Answer.{Answered, moveCode, placeCode, Reported, Recorded, PlanAnswered};
 use refusals::Refusal;
@@ -181,7 +181,7 @@ pub extern "C" fn cellplan_report_record(
 // The place of a part.
 #[no_mangle]
 pub extern "C" fn cellplan_place(cell: &[u8], recipe: &[u8], bytes: &[u8], part: u8) -> u32
-    ensures { λ r. ⌜ r ≡ placeCode (placeOf (cellFrom (now (cell .entry))) (recipeFrom (now (recipe .entry))) (runFrom (now (bytes .entry))) part) ⌝ }
+    ensures { λ r. ⌜ r ≡ placeCode (partPlace (cellFrom (now (cell .entry))) (recipeFrom (now (recipe .entry))) (runFrom (now (bytes .entry))) part) ⌝ }
 {
     let run = get::get_run(bytes);
     let answer = run.place(get::get_cell(cell), get::get_recipe(recipe), part);

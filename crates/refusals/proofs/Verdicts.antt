@@ -13,7 +13,7 @@ use Rattle.refusals.specs.declared.Verdict.the-variants.{Accepted, Refus
 use Rattle.refusals.specs.Search.{firstBelow}
 use Rattle.refusals.specs.Refusal.{numberOf}
 use Rattle.refusals.specs.Verdict.{firstRefusal, lineVerdict, firstLine, noLine, rule3, refusalIn}
-use Rattle.refusals.proofs.Scan.{first-le, first-hit, first-none}
+use Rattle.refusals.proofs.Scan.{first-le, first-none}
 
 pub and-left : (a b : Bool) → (a && b) ≡ true → a ≡ true
 and-left true b e = refl
@@ -67,16 +67,6 @@ count-in-range count e =
     let no : (eqb count 0 || ltb 64 count) ≡ false = noLine-accepts _ _ e in
     let some : count ≡ 0 → ⊥ = eqb-false count 0 (search or-left) in
     record { some = omega arith; most = ltb-false 64 count (search or-right) }
-
--- the verdict of a search: at the first breaking line, or at none
-module _ (refusal : Refusal) (breaks : ℕ → Bool) (count : ℕ) where
-  pub line-found : (i : ℕ) → i < count → firstBelow breaks i ≡ i → breaks i ≡ true → firstLine refusal breaks count ≡ Refused refusal (i + 2)
-  unfolding firstLine lineVerdict
-  line-found i low before here = rw (first-hit breaks i count low before here, lt-ltb i count low)
-
-  pub line-none : firstBelow breaks count ≡ count → firstLine refusal breaks count ≡ Accepted
-  unfolding firstLine lineVerdict
-  line-none none = rw (none, le-ltb count count (omega arith))
 
 -- a rule on each line, of which `first` is the first that breaks it: by itself, and before others
 module _ (refusal : Refusal) (f : ℕ → Bool) (count first : ℕ) (found : first ≡ firstBelow f count) where

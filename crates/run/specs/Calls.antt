@@ -102,6 +102,6 @@ placeAnswer Accepted place = record { verdict = Accepted; place = place }
 placeAnswer (Refused refusal line) place = record { verdict = Refused refusal line; place = 255 }
 
 -- "A place call has no table and stops after rule 16; it gives a part's place, or 255 for a part number of P or more."
-unfoldable pub placeOf : Cell → Recipe → Run → ℕ → Place
-placeOf c r run part =
+unfoldable pub partPlace : Cell → Recipe → Run → ℕ → Place
+partPlace c r run part =
     placeAnswer (firstRefusal (placeRules c r run)) (cond (ltb part (sizesOf c r .parts)) (getD (run .configuration .place) part 0) 255)

@@ -3,7 +3,7 @@ ghost use mathlib.Core.Path.{_≡_};
 ghost use Rattle.refusals.specs.declared.Verdict.the-variants.{Refused};
 ghost use Rattle.refusals.specs.Verdict.{firstRefusal};
 ghost use Rattle.positions.specs.Sizes.{Fitting};
-ghost use Rattle.run.specs.Calls.{freshRun, runRules, tableRules, findEntry, nextMove, reportOf, placeOf};
+ghost use Rattle.run.specs.Calls.{freshRun, runRules, tableRules, findEntry, nextMove, reportOf, partPlace};
 ghost use Rattle.run.specs.Record.{Stored};
 use cell::Cell;
 use positions::Configuration;
@@ -168,7 +168,7 @@ impl Run {
 
     // The place of a part, whatever is handed in; 255 for a part that isn't there.
     pub fn place(self, cell: Cell, recipe: Recipe, part: u8) -> Place
-        ensures { λ r. ⌜ r ≡ placeOf cell recipe self part ⌝ }
+        ensures { λ r. ⌜ r ≡ partPlace cell recipe self part ⌝ }
     {
         let checked = positions::check_records(cell, recipe);
         let Verdict::Accepted = checked else {

@@ -15,7 +15,7 @@ use Rattle.tables.specs.declared.Form.the-variants.{Whole, Broken}
 use Rattle.tables.specs.Lines.{upTo, past, lengthened, parted, ended, lines, valueText, valueLines}
 use Rattle.tables.specs.Numbers.{decimal, fields, isRow, numbers}
 use Rattle.tables.specs.Table.{firstBroken, isBroken, numberAt}
-use Rattle.tables.specs.Reading.{lineOf, formOf, seven, keptLine, Kept, Checked}
+use Rattle.tables.specs.Reading.{lineOf, formOf, seven, keptLine, Kept, FormChecked}
 use Rattle.tables.proofs.TextPieces.{pieces, past-drop, lines-past}
 use Rattle.tables.proofs.ValueLines.{Judges, a-row}
 
@@ -137,10 +137,10 @@ kept-more k f n store vs few room K line = record { number = λ i j low small le
         let e : i ≡ n = omega arith in
         rw (e, lt-ltb n 64 (omega arith)) (stored-in store (seven vs) (n * 7) j (omega arith) (omega arith) ∙ among j (omega arith) ∙ line j less)
 
-pub checked-broken : (k : ℕ) (f : List ℕ) (n : ℕ) (store : List ℕ) → Broken n ≡ formOf k f → Checked k f (Broken n) store
+pub checked-broken : (k : ℕ) (f : List ℕ) (n : ℕ) (store : List ℕ) → Broken n ≡ formOf k f → FormChecked k f (Broken n) store
 checked-broken k f n store e =
     record { form-is = e; kept = λ (count : ℕ) (w : Broken n ≡ Whole count). let z : _≡_ {A = ℕ} 0 1 = cc in absurd (omega arith) }
 
-pub checked-whole : (k : ℕ) (f : List ℕ) (n : ℕ) (store : List ℕ) → Whole n ≡ formOf k f → Kept k f n store → Checked k f (Whole n) store
+pub checked-whole : (k : ℕ) (f : List ℕ) (n : ℕ) (store : List ℕ) → Whole n ≡ formOf k f → Kept k f n store → FormChecked k f (Whole n) store
 checked-whole k f n store e K =
     record { form-is = e; kept = λ (count : ℕ) (w : Whole n ≡ Whole count). let same : n ≡ count = cc in rw same at K }

@@ -12,7 +12,7 @@ use lib.Seq.{drop-cons, drop-length}
 use borrow.Author.Tests.{eq-eqb, ne-eqb, le-leb, lt-leb, lt-ltb, le-ltb}
 use Rattle.tables.specs.declared.Number.{Number}
 use Rattle.tables.specs.Numbers.{isDigit, areDigits, isNumber, decimal}
-use Rattle.tables.specs.Reading.{leading, numberOf, noNumber, startsField, fieldOf}
+use Rattle.tables.specs.Reading.{leading, firstNumber, noNumber, startsField, fieldOf}
 
 pub digit-low : (b : ℕ) → b < 48 → isDigit b ≡ false
 unfolding isDigit
@@ -128,8 +128,8 @@ module _ (s : List ℕ) (i v : ℕ) (R : Read s i v) where
   read-stop e = let c = R .count in let d = R .value in (omega (arith, rw e at c), R .few, rw e at d)
 
   -- a sixth digit: what is read is no number
-  pub read-long : i ≡ 5 → i < length s → isDigit (getD s i 0) ≡ true → noNumber ≡ numberOf s
-  unfolding numberOf isNumber
+  pub read-long : i ≡ 5 → i < length s → isDigit (getD s i 0) ≡ true → noNumber ≡ firstNumber s
+  unfolding firstNumber isNumber
   read-long five low d =
       let c = R .count in
       let long : 5 < length (leading s) = omega (arith, rw (leading-next s i low d) at c) in
@@ -151,14 +151,14 @@ leading-first (b ∷ s) some = step (isDigit b) some
 
 -- the leading digits, n of them, judged by their count and by their first
 module _ (s : List ℕ) (n : ℕ) (is : n ≡ length (leading s)) where
-  pub judged-none : n ≡ 0 → noNumber ≡ numberOf s
-  unfolding numberOf isNumber
+  pub judged-none : n ≡ 0 → noNumber ≡ firstNumber s
+  unfolding firstNumber isNumber
   judged-none e =
       let z : length (leading s) < 1 = omega arith in
       rw (lt-leb 1 (length (leading s)) z, leading-digits s)
 
-  pub judged-zero : 1 < n → n ≤ 5 → getD s 0 0 ≡ 48 → noNumber ≡ numberOf s
-  unfolding numberOf isNumber
+  pub judged-zero : 1 < n → n ≤ 5 → getD s 0 0 ≡ 48 → noNumber ≡ firstNumber s
+  unfolding firstNumber isNumber
   judged-zero more few e =
       rw (
         leading-digits s,
@@ -172,8 +172,8 @@ module _ (s : List ℕ) (n : ℕ) (is : n ≡ length (leading s)) where
     abbrev pub good : Number
     good = record { length = n; value = v }
 
-    pub judged-digit : n ≡ 1 → good ≡ numberOf s
-    unfolding numberOf isNumber
+    pub judged-digit : n ≡ 1 → good ≡ firstNumber s
+    unfolding firstNumber isNumber
     judged-digit e =
         rw (
           leading-digits s,
@@ -183,8 +183,8 @@ module _ (s : List ℕ) (n : ℕ) (is : n ≡ length (leading s)) where
         )
         (λ i. record { length = is i; value = written i })
 
-    pub judged-long : 1 < n → n ≤ 5 → (getD s 0 0 ≡ 48 → ⊥) → good ≡ numberOf s
-    unfolding numberOf isNumber
+    pub judged-long : 1 < n → n ≤ 5 → (getD s 0 0 ≡ 48 → ⊥) → good ≡ firstNumber s
+    unfolding firstNumber isNumber
     judged-long more few ne =
         rw (
           leading-digits s,
@@ -205,7 +205,7 @@ number-some l e none = shut (areDigits l) (rw (lt-leb 1 (length l) (omega arith)
     shut false h = false≢true h
 
 -- a number found at the start of a text, and the byte after it
-module _ (s : List ℕ) (N : Number) (found : N ≡ numberOf s) where
+module _ (s : List ℕ) (N : Number) (found : N ≡ firstNumber s) where
   -- where a number was found, it is the leading digits
   pub record Written : Type 0 where
     pub good : isNumber (leading s) ≡ true
@@ -213,7 +213,7 @@ module _ (s : List ℕ) (N : Number) (found : N ≡ numberOf s) where
     pub value-is : N .value ≡ decimal 0 (leading s)
 
   pub written : (N .length ≡ 0 → ⊥) → Written
-  unfolding numberOf
+  unfolding firstNumber
   written some = judge (isNumber (leading s)) refl found
     where
       judge : (t : Bool) → isNumber (leading s) ≡ t
@@ -224,7 +224,7 @@ module _ (s : List ℕ) (N : Number) (found : N ≡ numberOf s) where
 
   module _ (x : ℕ) where
     pub field-none : N .length ≡ 0 → N ≡ fieldOf x s
-    unfolding numberOf fieldOf startsField isNumber
+    unfolding firstNumber fieldOf startsField isNumber
     field-none none = judge (isNumber (leading s)) refl found
       where
         judge : (t : Bool) → isNumber (leading s) ≡ t

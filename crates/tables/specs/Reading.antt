@@ -35,8 +35,8 @@ unfoldable pub startsField : ℕ → List ℕ → Bool
 startsField x text = isNumber (leading text) && (ltb (length (leading text)) (length text) && eqb (getD text (length (leading text)) 0) x)
 
 -- the number at the start of a text; length 0 if its leading digits are none
-unfoldable pub numberOf : List ℕ → Number
-numberOf text = cond (isNumber (leading text)) (record { length = length (leading text); value = decimal 0 (leading text) }) noNumber
+unfoldable pub firstNumber : List ℕ → Number
+firstNumber text = cond (isNumber (leading text)) (record { length = length (leading text); value = decimal 0 (leading text) }) noNumber
 
 -- the number at the start of a text that the byte x ends, with the length of both; length 0 if there is none
 unfoldable pub fieldOf : ℕ → List ℕ → Number
@@ -84,7 +84,7 @@ pub record Kept (k : ℕ) (file : List ℕ) (count : ℕ) (store : List ℕ) : T
   pub number : (i j : ℕ) → i < count → i < 64 → j < k → getD store (i * 7 + j) 0 ≡ numberAt file j i
 
 -- what rule 2 finds in a file, and what it leaves in the store
-pub record Checked (k : ℕ) (file : List ℕ) (form : Form) (store : List ℕ) : Type 0 where
+pub record FormChecked (k : ℕ) (file : List ℕ) (form : Form) (store : List ℕ) : Type 0 where
   pub form-is : form ≡ formOf k file
   pub kept : (count : ℕ) → form ≡ Whole count → Kept k file count store
 

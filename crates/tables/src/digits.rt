@@ -3,13 +3,13 @@ ghost use mathlib.Core.Path.{_≡_};
 ghost use Prim.Native.Nat.{_-_, _≤_};
 ghost use lib.ListN.{length};
 ghost use Rattle.tables.specs.Numbers.{decimal};
-ghost use Rattle.tables.specs.Reading.{leading, numberOf, fieldOf};
+ghost use Rattle.tables.specs.Reading.{leading, firstNumber, fieldOf};
 use crate::Number;
 
 // Judges the leading digits of the text, of which there are `length`, which write `value`.
 fn judge(text: &[u8], length: usize, value: u32) -> Number
     requires { ⌜ (length ≡ lib.ListN.length (leading (now text))) × (length ≤ 5) × (value ≡ decimal 0 (leading (now text))) ⌝ }
-    ensures { λ r. ⌜ r ≡ numberOf (now (text .entry)) ⌝ }
+    ensures { λ r. ⌜ r ≡ firstNumber (now (text .entry)) ⌝ }
 {
     if length == 0 {
         return Number {
@@ -38,7 +38,7 @@ fn digit_value(digit: u8) -> u32
 
 // The number at the start of the text.
 fn read_number(text: &[u8]) -> Number
-    ensures { λ r. ⌜ r ≡ numberOf (now (text .entry)) ⌝ }
+    ensures { λ r. ⌜ r ≡ firstNumber (now (text .entry)) ⌝ }
 {
     let mut value: u32 = 0;
     let mut i = 0;

@@ -3,7 +3,7 @@ ghost use mathlib.Core.Path.{_≡_};
 ghost use Prim.Native.Nat.{_<_, _≤_};
 ghost use lib.ListN.{length};
 ghost use Rattle.tables.specs.Table.{starts};
-ghost use Rattle.tables.specs.Reading.{keptLine, Checked};
+ghost use Rattle.tables.specs.Reading.{keptLine, FormChecked};
 use crate::Form;
 use crate::lines;
 use crate::row;
@@ -47,7 +47,7 @@ fn keep_line(store: &mut [u32], n: usize, values: [u32; 7])
 // the numbers of the first 64 lines, seven places a line, so that a reader need not look again.
 pub fn check_lines(file: &[u8], k: usize, store: &mut [u32]) -> Form
     requires { ⌜ (0 < k) × (k ≤ 7) × (448 ≤ length (now store)) ⌝ }
-    ensures { λ r. ⌜ Checked k (now (file .entry)) r (now (store .exit)) ⌝ }
+    ensures { λ r. ⌜ FormChecked k (now (file .entry)) r (now (store .exit)) ⌝ }
 {
     let mut at = lines::next_line(file, 0);
     let mut n = 0;

@@ -6,7 +6,7 @@ use Rattle.positions.specs.declared.Sizes.{Sizes}
 use Rattle.positions.specs.Sizes.{sizesOf}
 use Rattle.positions.specs.Rules.{recordRules, checkRecords}
 use Rattle.positions.proofs.AcceptedRecords.{both-ok}
-use Rattle.run.specs.Calls.{runRules, placeRules, placeOf}
+use Rattle.run.specs.Calls.{runRules, placeRules, partPlace}
 use Rattle.run.proofs.Answers.{place-refused, place-accepted, place-past, place-there}
 use borrow.Author.Needs.{needs}
 use Rattle.run.proofs.Run.place.Statement.{statement}
@@ -22,7 +22,7 @@ enum-told-2 : tie.Need-enum-told-2
 enum-told-2 c = search needs
 
 returns : tie.Need-returns
-unfolding placeOf placeRules checkRecords
+unfolding partPlace placeRules checkRecords
 returns c =
     let s = c .before .before .before .args in
     place-refused _ (part-refuses (recordRules (s .cell) (s .recipe)) (runRules (sizesOf (s .cell) (s .recipe)) (s .self)) (c .before .before .check-records .ensures) (c .enum-told2 .given .1)) (c .enum-told2 .given .1)
@@ -40,7 +40,7 @@ enum-told-4 : tie.Need-enum-told-4
 enum-told-4 c = search needs
 
 returns-2 : tie.Need-returns-2
-unfolding placeOf placeRules checkRecords
+unfolding partPlace placeRules checkRecords
 returns-2 c =
     let at-check-records = c .before .before .before .before .before .before in
     let start = c .before .before .before .before .before .before .before in
@@ -50,7 +50,7 @@ returns-2 c =
     place-refused _ (part-accepts records rules (at-check-records .check-records .ensures) (c .before .before .before .before .enum-told .given .1) (c .before .before .check-run .ensures ∙ ap rest (c .before .before .before .measure .ensures .0))) (c .enum-told4 .given .1)
 
 returns-3 : tie.Need-returns-3
-unfolding placeOf placeRules checkRecords
+unfolding partPlace placeRules checkRecords
 returns-3 c =
     let at-measure = c .before .before .before .before .before in
     let at-enum-told = at-measure .before in
@@ -67,7 +67,7 @@ array-read-t16 : tie.Need-array-read-t16
 array-read-t16 c = search needs
 
 returns-4 : tie.Need-returns-4
-unfolding placeOf placeRules checkRecords
+unfolding partPlace placeRules checkRecords
 returns-4 c =
     let at-check-run = c .before .before .before .before .before .before in
     let at-measure = at-check-run .before in
