@@ -68,6 +68,10 @@ count-in-range count e =
     let some : count ≡ 0 → ⊥ = eqb-false count 0 (search or-left) in
     record { some = omega arith; most = ltb-false 64 count (search or-right) }
 
+-- a verdict that refuses does not accept
+pub refused-not : {v : Verdict} {refusal : Refusal} {line : ℕ} → v ≡ Refused refusal line → v ≡ Accepted → ⊥
+refused-not e f = let z : _≡_ {A = ℕ} 0 1 = cc in omega arith
+
 -- a rule on each line, of which `first` is the first that breaks it: by itself, and before others
 module _ (refusal : Refusal) (f : ℕ → Bool) (count first : ℕ) (found : first ≡ firstBelow f count) where
   pub line : {v : Verdict} → v ≡ lineVerdict refusal first count → v ≡ firstLine refusal f count

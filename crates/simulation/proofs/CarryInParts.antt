@@ -25,7 +25,8 @@ use Rattle.steps.specs.Joint.{Choice, rests, mayDo, acts, isStep, isSilent, han
 use Rattle.steps.specs.Carry.{serves, matches, standsAt, present, isFree, free, carriesDo, carriesTest, carries, putThere, placed, partsMoved, afterCarry}
 use Rattle.steps.proofs.ReadyLines.{both, resources-fit}
 use Rattle.steps.proofs.CarryLines.{match-at, taken-at, match-count}
-use Rattle.simulation.proofs.StepInParts.{join, part, rest, Closed, part-in, part-out, rest-in, part-silent, part-keeps, may-same, part-step, after-place, rest-step, parted-after}
+use Rattle.steps.proofs.MadeConfiguration.{join}
+use Rattle.simulation.proofs.StepInParts.{part, rest, Closed, part-in, part-out, rest-in, part-silent, part-keeps, may-same, part-step, after-place, rest-step, parted-after}
 
 -- the resources in s take all the operations, or none
 abbrev pub AllOperations : Cell → Choice → (ℕ → Bool) → Type 0

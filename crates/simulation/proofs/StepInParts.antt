@@ -2,7 +2,6 @@
 -- Assumes nothing.
 use mathlib.Core.Path.{_≡_, refl, sym, ap, _∙_}
 use mathlib.Core.Bool.{Bool, true, false, cond, not}
-use mathlib.Core.List.{List}
 use Prim.Native.Nat.{ℕ, zero, suc, _<_, _≤_}
 use native.Mathlib.Omega.{arith}
 use lib.Dec.{eqb}
@@ -17,11 +16,8 @@ use Rattle.positions.specs.declared.Configuration.{Configuration}
 use Rattle.steps.specs.Lines.{actOf, argOf, stateOf, placeOf}
 use Rattle.steps.specs.Joint.{Choice, rests, mayDo, acts, actsOn, isStep, isSilent, stateAfter, handed, placeAfter, after}
 use Rattle.steps.proofs.ReadyLines.{both}
+use Rattle.steps.proofs.MadeConfiguration.{join}
 use Rattle.simulation.proofs.PortPairs.{Paired, paired-fits, receives, step-paired}
-
--- a configuration by its states and its places
-pub join : {s t p q : List ℕ} → s ≡ t → p ≡ q → _≡_ {A = Configuration} (record { state = s; place = p }) (record { state = t; place = q })
-join u v = λ i. record { state = u i; place = v i }
 
 -- what the resources in s do, the others at rest
 unfoldable pub part : Choice → (ℕ → Bool) → Choice

@@ -27,9 +27,10 @@ use Rattle.steps.proofs.ReadyLines.{both, may-low, step-may}
 use Rattle.steps.proofs.SilentEntries.{internal-entry, transfer-entry}
 use Rattle.steps.proofs.CarryEntries.{CarryFor, carry-entry}
 use Rattle.steps.proofs.MovesStayInRange.{position-range, places-most}
+use Rattle.steps.proofs.MadeConfiguration.{join}
 use Rattle.simulation.specs.Simulation.{Position}
 use Rattle.simulation.proofs.PortPairs.{Paired, step-paired}
-use Rattle.simulation.proofs.StepInParts.{join, part, rest, Closed, part-out, part-rests, rest-in, rest-out, part-silent, part-step, rest-step, parted-after}
+use Rattle.simulation.proofs.StepInParts.{part, rest, Closed, part-out, part-rests, rest-in, rest-out, part-silent, part-step, rest-step, parted-after}
 use Rattle.simulation.proofs.CarryInParts.{NoOperation, carry-part-step, carry-part-silent, rest-carries, parted-carry}
 use Rattle.simulation.proofs.SinglePaths.{Singly, stay, move, SingleCarry, singly-stays, carry-then, carry-else}
 

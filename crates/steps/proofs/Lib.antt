@@ -19,8 +19,8 @@ pub mod OpenSteps
 pub mod SingleMakesJoint
 pub mod Effects
 pub mod SingleEffects
-pub mod Letters
 pub mod EntryForms
+pub mod Letters
 pub mod SingleMoves
 pub mod EqualChoices
 pub mod SilentEntries

@@ -12,6 +12,7 @@ use Rattle.refusals.specs.declared.Verdict.the-variants.{Accepted, Refused}
 use Rattle.refusals.specs.declared.Refusal.the-variants.{NotOpen}
 use Rattle.refusals.specs.Search.{firstBelow, anyBelow, allBelow, countBelow, greatestBelow, tabulate}
 use Rattle.refusals.specs.Verdict.{firstRefusal, lineVerdict, firstLine, noLine, rule3}
+use Rattle.refusals.proofs.Verdicts.{refused-not}
 use Rattle.tables.specs.Numbers.{isDigit}
 use Rattle.cell.specs.declared.Cell.{Cell}
 use Rattle.cell.specs.declared.CellReading.{CellReading}
@@ -119,10 +120,7 @@ call-length {c} {r} {lent} {scratch} {planned} call = go (checkPlan c r (length 
     go : (v : Verdict) → checkPlan c r (length lent) (length scratch) ≡ v → length planned ≡ length lent
     go Accepted is = call .passed is .planned .same-length
     go (Refused refusal line) is =
-        ap (λ (l : List ℕ). length l) (call .refused-first (λ passes. refused-not (sym is ∙ passes)) .same-table)
-      where
-        refused-not : Refused refusal line ≡ Accepted → ⊥
-        refused-not e = let z : _≡_ {A = ℕ} 0 1 = cc in omega arith
+        ap (λ (l : List ℕ). length l) (call .refused-first (refused-not is) .same-table)
 
 long-enough : (n : ℕ) → 90 ≤ n → rule14 (sizesOf benchCell benchRecipe) n ≡ Accepted
 unfolding rule14 noLine

@@ -15,7 +15,8 @@ use Rattle.cell.specs.Reader.{readCell}
 use Rattle.recipe.specs.declared.RecipeReading.{RecipeReading}
 use Rattle.recipe.specs.Reader.{readRecipe}
 use Rattle.planner.specs.Call.{PlanCall}
-use Rattle.refusals.proofs.Rules.{first-accepts, rest-accepts, decides}
+use Rattle.refusals.proofs.Verdicts.{refused-not}
+use Rattle.refusals.proofs.Rules.{part-refuses, part-accepts, decides}
 use Rattle.walk.specs.Text.{refusalLine, Put}
 use Rattle.walk.specs.Output.{below, CellRead, RecipeRead, Prepared}
 
@@ -46,22 +47,11 @@ unfolding below
 line-handed is numbered put whole =
     whole ∙ ap (λ (l : List ℕ). length l) (put .bytes-are ∙ ap refusalLine numbered) ∙ ap (λ (v : Verdict). length (below v [])) (sym is)
 
--- a verdict that refuses leaves nothing to the next
-no-next : (v w x : Verdict) {refusal : Refusal} {line : ℕ} → firstRefusal (v ∷ w ∷ []) ≡ Refused refusal line → firstRefusal (v ∷ w ∷ []) ≡ firstRefusal (v ∷ w ∷ x ∷ [])
-unfolding firstRefusal
-no-next Accepted Accepted x is = cc
-no-next Accepted (Refused refusal line) x is = refl
-no-next (Refused refusal line) w x is = refl
-
-refused-not : {v : Verdict} {refusal : Refusal} {line : ℕ} → v ≡ Refused refusal line → v ≡ Accepted → ⊥
-refused-not e f = let z : _≡_ {A = ℕ} 0 1 = cc in omega arith
-
-accepts-both : {v w : Verdict} (x : Verdict) → v ≡ Accepted → w ≡ Accepted → x ≡ firstRefusal (v ∷ w ∷ x ∷ [])
-unfolding firstRefusal
-accepts-both x e f = rw (e, f) (decides refl)
-
 module _ (table : List ℕ) (cell : CellReading) (recipe : RecipeReading) (cell-read : CellRead cell) (recipe-read : RecipeRead recipe) where
-  judged-is : firstRefusal (cell .verdict ∷ recipe .verdict ∷ []) ≡ firstRefusal (readCell (take 8192 (cell-read .0)) .verdict ∷ readRecipe (take 8192 (recipe-read .0)) .verdict ∷ [])
+  abbrev readings : List Verdict
+  readings = readCell (take 8192 (cell-read .0)) .verdict ∷ readRecipe (take 8192 (recipe-read .0)) .verdict ∷ []
+
+  judged-is : firstRefusal (cell .verdict ∷ recipe .verdict ∷ []) ≡ firstRefusal readings
   judged-is = λ i. firstRefusal (cell-read .1 i .verdict ∷ recipe-read .1 i .verdict ∷ [])
 
   pub prepared-refused : (verdict : Verdict) {refusal : Refusal} {line : ℕ} → verdict ≡ firstRefusal (cell .verdict ∷ recipe .verdict ∷ []) → verdict ≡ Refused refusal line
@@ -75,7 +65,7 @@ module _ (table : List ℕ) (cell : CellReading) (recipe : RecipeReading) (cell-
         decided =
             record {
               plan = Accepted;
-              verdict-is = judged ∙ no-next (readCell (take 8192 (cell-read .0)) .verdict) (readRecipe (take 8192 (recipe-read .0)) .verdict) Accepted (sym judged ∙ told);
+              verdict-is = part-refuses readings (Accepted ∷ []) judged told;
               planned = λ first second. absurd (refused-not told (judged ∙ (λ i. firstRefusal (first i ∷ second i ∷ []))));
             };
         cell-is = ap (λ (x : CellReading). x .cell) (cell-read .1);
@@ -88,14 +78,13 @@ module _ (table : List ℕ) (cell : CellReading) (recipe : RecipeReading) (cell-
       → PlanCall (cell .cell) (recipe .recipe) entry scratch table scratch′ plan
       → Prepared table (record { verdict = plan; cell = cell .cell; recipe = recipe .recipe })
   prepared-planned verdict plan entry scratch scratch′ is told long wide call =
-      let accepted = sym (is ∙ judged-is) ∙ told in
       record {
         cellFile = cell-read .0;
         recipeFile = recipe-read .0;
         decided =
             record {
               plan = plan;
-              verdict-is = accepts-both plan (first-accepts _ _ accepted) (first-accepts _ _ (rest-accepts _ _ accepted));
+              verdict-is = part-accepts readings (plan ∷ []) (is ∙ judged-is) told (decides refl);
               planned =
                   λ first second. record {
                     table = entry;

@@ -12,7 +12,7 @@ use Rattle.refusals.specs.declared.Refusal.the-variants.{TooShort, NotRealisabl
 use Rattle.refusals.specs.declared.Verdict.{Verdict}
 use Rattle.refusals.specs.declared.Verdict.the-variants.{Accepted, Refused}
 use Rattle.refusals.specs.Search.{firstBelow, anyBelow, allBelow, countBelow, greatestBelow, tabulate}
-use Rattle.refusals.proofs.Verdicts.{and-left, and-right, noLine-broken, noLine-kept}
+use Rattle.refusals.proofs.Verdicts.{and-left, and-right, refused-not, noLine-broken, noLine-kept}
 use Rattle.refusals.proofs.Rules.{accepts, decides, part-accepts}
 use Rattle.cell.specs.declared.Cell.{Cell}
 use Rattle.cell.specs.Rules as cell
@@ -108,10 +108,7 @@ module _ (table scratch table′ scratch′ : List ℕ) (verdict : Verdict) wher
     pub short-scratch : length scratch ≤ 89 → verdict ≡ Refused TooShort 0
     short-scratch narrow =
         let is = check-short benchCell benchRecipe (computed .sized) (length table) (length scratch) fits (omega (arith, computed .positions)) in
-        call .refused-first (λ passes. refused-not (sym is ∙ passes)) .answer ∙ is
-      where
-        refused-not : Refused TooShort 0 ≡ Accepted → ⊥
-        refused-not is = let z : _≡_ {A = ℕ} 0 1 = cc in omega arith
+        call .refused-first (refused-not is) .answer ∙ is
 
     -- ‡ "90 passes"
     module _ (wide : 90 ≤ length scratch) where
@@ -148,10 +145,7 @@ module _ (table scratch table′ scratch′ : List ℕ) (verdict : Verdict) wher
 
       -- a planner that "answers 15 always" does not keep the contract
       pub not-always-15 : verdict ≡ Refused NotRealisable 0 → ⊥
-      not-always-15 is = let both : Refused NotRealisable 0 ≡ Accepted = sym is ∙ bench-called .accepted in refused-not both
-        where
-          refused-not : Refused NotRealisable 0 ≡ Accepted → ⊥
-          refused-not e = let z : _≡_ {A = ℕ} 0 1 = cc in omega arith
+      not-always-15 is = refused-not is (bench-called .accepted)
 
       -- nor does one that "accepts all, end entries everywhere"
       pub not-ends-everywhere : getD table′ 0 0 ≡ 67108864 → ⊥

@@ -3,12 +3,11 @@
 
 use std::env;
 use std::io::{self, Write};
-use std::path::Path;
 use std::process::ExitCode;
 
 use definitions::print;
 use definitions::reading::Reading;
-use definitions::repository::Repository;
+use definitions::repository::{root, Repository};
 use definitions::roots::GROUPS;
 
 const USAGE: &str = "\
@@ -30,12 +29,10 @@ fn main() -> ExitCode {
             return ExitCode::from(2);
         }
     };
-    let package = Path::new(env!("CARGO_MANIFEST_DIR"));
-    let root = package.ancestors().nth(2).unwrap_or(package);
-    let repository = match Repository::open(root) {
+    let repository = match Repository::open(root()) {
         Ok(repository) => repository,
         Err(error) => {
-            eprintln!("{}: {error}", root.display());
+            eprintln!("{}: {error}", root().display());
             return ExitCode::FAILURE;
         }
     };

@@ -15,6 +15,14 @@ pub struct Repository {
     pub files: BTreeMap<String, String>,
 }
 
+/// The root of the repository that this package belongs to.
+pub fn root() -> &'static Path {
+    Path::new(env!("CARGO_MANIFEST_DIR"))
+        .ancestors()
+        .nth(2)
+        .expect("the package stands two folders below the root")
+}
+
 impl Repository {
     /// The repository whose root is this folder.
     pub fn open(root: &Path) -> io::Result<Repository> {

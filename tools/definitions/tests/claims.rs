@@ -1,21 +1,13 @@
 //! The repository itself: nothing is left unfollowed, and docs/CLAIMS.md has the table of what to read.
 
 use std::fs;
-use std::path::Path;
 
 use definitions::print;
 use definitions::reading::Reading;
-use definitions::repository::Repository;
+use definitions::repository::{root, Repository};
 use definitions::roots::GROUPS;
 
 const SECTION: &str = "\n## What to read\n";
-
-fn root() -> &'static Path {
-    Path::new(env!("CARGO_MANIFEST_DIR"))
-        .ancestors()
-        .nth(2)
-        .expect("the package stands two folders below the workspace")
-}
 
 fn reading() -> Reading {
     let repository = Repository::open(root()).expect("the repository can be read");

@@ -4,15 +4,10 @@
 use std::fs;
 use std::path::{Path, PathBuf};
 
+use definitions::repository::root;
+
 /// The definitions of how an entry is decided, beside the one word for what a move does.
 const DECIDED: &str = "crates/steps/specs/Single.antt";
-
-fn root() -> &'static Path {
-    Path::new(env!("CARGO_MANIFEST_DIR"))
-        .ancestors()
-        .nth(2)
-        .expect("the package stands two folders below the workspace")
-}
 
 fn read(path: &Path) -> String {
     fs::read_to_string(path).expect("a file of the repository can be read")
