@@ -37,8 +37,8 @@ use Rattle.planner.specs.Call.{checkPlan, PlanCall}
 use Rattle.worked.specs.Bench.{digits, row, cellFile, recipeWith, recipeFile}
 use Rattle.worked.specs.Moves.{filled, benchCell, benchRecipe, benchEntry, benchTable}
 use Rattle.worked.proofs.Table.{table}
-use Rattle.walk.specs.Text.{lastDigit, digitsOf, field, moveLine}
-use Rattle.walk.specs.Turn.{numbered, positionIn, Told, reported, told, printed}
+use Rattle.printout.specs.Text.{lastDigit, digitsOf, field, moveLine}
+use Rattle.printout.specs.Turn.{numbered, positionIn, Told, reported, told, printed}
 use Rattle.walk.specs.Output.{namesLine, below, Output}
 
 -- two tables have the same entries where the second one leads

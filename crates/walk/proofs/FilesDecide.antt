@@ -17,7 +17,7 @@ use Rattle.recipe.specs.Reader.{readRecipe}
 use Rattle.planner.specs.Call.{PlanCall}
 use Rattle.refusals.proofs.Verdicts.{refused-not}
 use Rattle.refusals.proofs.Rules.{part-refuses, part-accepts, decides}
-use Rattle.walk.specs.Text.{refusalLine, Put}
+use Rattle.printout.specs.Text.{refusalLine, Put}
 use Rattle.walk.specs.Output.{below, CellRead, RecipeRead, Prepared}
 
 -- a buffer of 8192 bytes holds the start of a file

@@ -10,11 +10,11 @@ use Rattle.cell.specs.declared.Cell.{Cell}
 use Rattle.recipe.specs.declared.Recipe.{Recipe}
 use Rattle.run.specs.declared.Run.{Run}
 use Rattle.run.specs.Calls.{freshRun}
-use Rattle.walk.specs.declared.Answer.{Answer}
+use Rattle.printout.specs.declared.Answer.{Answer}
 use Rattle.walk.specs.declared.Step.{Step}
-use Rattle.walk.specs.Turn.{walked, printed, Answers}
+use Rattle.printout.specs.Turn.{walked, printed, Answers}
 use Rattle.walk.specs.Output.{Stepped, Followed}
-use Rattle.walk.proofs.InputInParts.{walked-parts, printed-parts}
+use Rattle.printout.proofs.InputInParts.{walked-parts, printed-parts}
 
 -- a prefix has as many bytes as it was cut to
 pub prefix-counts : (n : ℕ) (text : List ℕ) → n ≤ length text → n ≡ length (take n text)

@@ -20,8 +20,8 @@ use Rattle.run.specs.Calls.{freshRun}
 use Rattle.planner.specs.Call.{PlanCall}
 use Rattle.walk.specs.declared.Ready.{Ready}
 use Rattle.walk.specs.declared.Step.{Step}
-use Rattle.walk.specs.Text.{refusalLine}
-use Rattle.walk.specs.Turn.{walked, printed}
+use Rattle.printout.specs.Text.{refusalLine}
+use Rattle.printout.specs.Turn.{walked, printed}
 
 -- the first line, "position,entry,next"
 unfoldable pub namesLine : List ℕ

@@ -1,8 +1,5 @@
 // The program `walk`: plans the cell and the recipe of the working directory, and follows the plan
 // by the outcomes that standard input gives.
-mod text;
-mod turn;
-
 ghost use mathlib.Core.Path.{_≡_};
 ghost use mathlib.Core.List.{[], _∷_};
 ghost use Prim.Native.Nat.{_*_, _≤_};
@@ -18,14 +15,6 @@ use recipe::Recipe;
 use recipe::RecipeReading;
 use refusals::Verdict;
 use run::Run;
-
-// What bytes of standard input are answered with: how many bytes of text, whether the walk goes on,
-// and the run afterwards.
-pub struct Answer {
-    pub length: usize,
-    pub more: bool,
-    pub run: Run,
-}
 
 // How many bytes were handed to standard output, and whether writing them failed.
 pub struct Printed {
@@ -76,7 +65,7 @@ fn print_refusal(verdict: Verdict) -> Printed
         };
     };
     let mut line = [0u8; 64];
-    let length = text::put_refusal(&mut line, 0, refusals::number(refusal));
+    let length = printout::text::put_refusal(&mut line, 0, refusals::number(refusal));
     print(&line[..length])
 }
 
@@ -178,7 +167,7 @@ fn take_some(
             run,
         };
     }
-    let answer = turn::answers(cell, recipe, table, run, &bytes[..got], text);
+    let answer = printout::turn::answers(cell, recipe, table, run, &bytes[..got], text);
     let length = answer.length;
     let next = answer.run;
     let printed = print(&text[..length]);

@@ -1,4 +1,4 @@
-use Rattle.walk.proofs.BufferPieces.{put-counts}
+use Rattle.printout.proofs.BufferPieces.{put-counts}
 use Rattle.walk.proofs.FilesDecide.{none-handed, line-handed}
 use borrow.Author.Needs.{needs}
 use Rattle.walk.proofs.print_refusal.Statement.{statement}
