@@ -5,8 +5,8 @@ use Prim.Native.Nat.{ℕ, zero, suc, _+_, _*_, _<_, _≤_}
 use native.Mathlib.Nat.{mul-le-mul-right}
 use native.Mathlib.Numerals.{add-one}
 use native.Mathlib.Omega.{arith}
-use lib.ListN.{length, set, drop, length-append, length-drop}
-use lib.Seq.{take-at, drop-append-add, drop-drop, sets, sets-eq, set-split, drop-set-lt, length-sets}
+use lib.ListN.{length, getD, set, take, drop, length-append, length-drop}
+use lib.Seq.{length-take-le, take-all, take-suc, take-at, drop-append-add, drop-drop, sets, sets-eq, set-split, drop-set-lt, length-sets}
 use Rattle.capi.specs.Encoding.{rowsOf}
 
 -- some bytes put after what was put before
@@ -17,29 +17,50 @@ put-after P old vs room =
     ∙ ap (λ (l : List ℕ). (l ++ vs) ++ drop (length P + length vs) (P ++ drop (length P) old)) (take-at P (drop (length P) old) (length P) refl)
     ∙ ap (λ (l : List ℕ). (P ++ vs) ++ l) (drop-append-add P (drop (length P) old) (length vs) ∙ drop-drop (length vs) (length P) old)
 
--- three times five bytes put at the start
+-- one byte more behind those stored
+sets-more : (l vs : List ℕ) (at b : ℕ) → sets l at (vs ++ (b ∷ [])) ≡ set (sets l at vs) (at + length vs) b
+sets-more l [] at b = let here : at + 0 ≡ at = omega arith in rw here
+sets-more l (v ∷ vs) at b =
+    let there : at + suc (length vs) ≡ suc at + length vs = omega arith in
+    rw there (sets-more (set l at v) vs (suc at) b)
+
+-- the bytes before byte i are stored, and then byte i
+pub stored-next :
+    (old bytes : List ℕ) (at i : ℕ)
+    → i < length bytes
+    → set (sets old at (take i bytes)) (at + i) (getD bytes i 0) ≡ sets old at (take (i + 1) bytes)
+stored-next old bytes at i low =
+    let many : length (take i bytes) ≡ i = length-take-le i bytes (omega arith) in
+    ap (λ (n : ℕ). set (sets old at (take i bytes)) (at + n) (getD bytes i 0)) (sym many)
+    ∙ sym (sets-more old (take i bytes) at (getD bytes i 0))
+    ∙ rw (add-one i, take-suc bytes i 0 low)
+
+-- all of them are
+pub stored-all : (old bytes : List ℕ) (at i : ℕ) → length bytes ≤ i → sets old at (take i bytes) ≡ sets old at bytes
+stored-all old bytes at i all = ap (sets old at) (take-all i bytes all)
+
+-- three pieces put at the start
 pub put-three :
-    (old first second third x y z : List ℕ)
+    (old first second third x y z : List ℕ) (m n k : ℕ)
     → first ≡ sets old 0 x
-    → second ≡ sets first 5 y
-    → third ≡ sets second 10 z
-    → length x ≡ 5
-    → length y ≡ 5
-    → length z ≡ 5
-    → 15 ≤ length old
-    → third ≡ ((x ++ y) ++ z) ++ drop 15 old
-put-three old first second third x y z e f g lx ly lz room =
-    let five : length {A = ℕ} [] + length x ≡ 5 = omega (arith, lx) in
-    let one : sets old 0 x ≡ x ++ drop 5 old = put-after [] old x (omega (arith, lx)) ∙ ap (λ (n : ℕ). x ++ drop n old) five in
-    let ten : length x + length y ≡ 10 = omega (arith, lx, ly) in
-    let two : sets (x ++ drop 5 old) 5 y ≡ (x ++ y) ++ drop 10 old =
-    ap (λ (n : ℕ). sets (x ++ drop n old) n y) (sym lx) ∙ put-after x old y (omega (arith, lx, ly)) ∙ ap (λ (n : ℕ). (x ++ y) ++ drop n old) ten in
-    let both : length (x ++ y) ≡ 10 = length-append x y ∙ ten in
-    let fifteen : length (x ++ y) + length z ≡ 15 = omega (arith, both, lz) in
-    g ∙ ap (λ (b : List ℕ). sets b 10 z) (f ∙ ap (λ (b : List ℕ). sets b 5 y) (e ∙ one) ∙ two)
-    ∙ ap (λ (n : ℕ). sets ((x ++ y) ++ drop n old) n z) (sym both)
-    ∙ put-after (x ++ y) old z (omega (arith, both, lz))
-    ∙ ap (λ (n : ℕ). ((x ++ y) ++ z) ++ drop n old) fifteen
+    → second ≡ sets first m y
+    → third ≡ sets second n z
+    → length x ≡ m
+    → m + length y ≡ n
+    → n + length z ≡ k
+    → k ≤ length old
+    → third ≡ ((x ++ y) ++ z) ++ drop k old
+put-three old first second third x y z m n k e f g lx ly lz room =
+    let none : length {A = ℕ} [] + length x ≡ m = omega (arith, lx) in
+    let one : sets old 0 x ≡ x ++ drop m old = put-after [] old x (omega (arith, lx)) ∙ ap (λ (i : ℕ). x ++ drop i old) none in
+    let two : sets (x ++ drop m old) m y ≡ (x ++ y) ++ drop n old =
+    ap (λ (i : ℕ). sets (x ++ drop i old) i y) (sym lx) ∙ put-after x old y (omega (arith, lx)) ∙ ap (λ (i : ℕ). (x ++ y) ++ drop (i + length y) old) lx ∙ ap (λ (i : ℕ). (x ++ y) ++ drop i old) ly in
+    let both : length (x ++ y) ≡ n = length-append x y ∙ ap (λ (i : ℕ). i + length y) lx ∙ ly in
+    g ∙ ap (λ (b : List ℕ). sets b n z) (f ∙ ap (λ (b : List ℕ). sets b m y) (e ∙ one) ∙ two)
+    ∙ ap (λ (i : ℕ). sets ((x ++ y) ++ drop i old) i z) (sym both)
+    ∙ put-after (x ++ y) old z (omega (arith, both))
+    ∙ ap (λ (i : ℕ). ((x ++ y) ++ z) ++ drop (i + length z) old) both
+    ∙ ap (λ (i : ℕ). ((x ++ y) ++ z) ++ drop i old) lz
 
 -- the first byte, and i rows of k bytes each, are put
 pub record Put (row : ℕ → List ℕ) (k count : ℕ) (old : List ℕ) (i at : ℕ) (buffer : List ℕ) : Type 0 where

@@ -1,6 +1,6 @@
 // Records written as bytes, line by line.
 ghost use mathlib.Core.Path.{_≡_};
-ghost use mathlib.Core.List.{[], _∷_, _++_};
+ghost use mathlib.Core.List.{_++_};
 ghost use Prim.Native.Nat.{_+_, _≤_};
 ghost use lib.ListN.{length, drop};
 ghost use lib.Seq.{sets};
@@ -9,16 +9,16 @@ use cell::Cell;
 use recipe::Recipe;
 use run::Run;
 
-// Stores five bytes from a place on.
-fn put_five(buffer: &mut [u8], at: usize, a: u8, b: u8, c: u8, d: u8, e: u8)
-    requires { ⌜ at + 5 ≤ length (now buffer) ⌝ }
-    ensures { λ _. ⌜ now (buffer .exit) ≡ sets (now (buffer .entry)) at (a ∷ b ∷ c ∷ d ∷ e ∷ []) ⌝ }
+// Stores bytes from a place on.
+fn put(buffer: &mut [u8], at: usize, bytes: &[u8])
+    requires { ⌜ at + length (now bytes) ≤ length (now buffer) ⌝ }
+    ensures { λ _. ⌜ now (buffer .exit) ≡ sets (now (buffer .entry)) at (now (bytes .entry)) ⌝ }
 {
-    buffer[at] = a;
-    buffer[at + 1] = b;
-    buffer[at + 2] = c;
-    buffer[at + 3] = d;
-    buffer[at + 4] = e;
+    let mut i = 0;
+    while i < bytes.len() {
+        buffer[at + i] = bytes[i];
+        i += 1;
+    }
 }
 
 // Writes a cell record to the buffer's start.
@@ -36,24 +36,11 @@ pub fn put_cell(cell: Cell, buffer: &mut [u8])
     let mut at = 1;
     let mut i = 0;
     while i < 64 {
-        put_five(buffer, at, resource[i], from[i], act[i], arg[i], to[i]);
+        let row = [resource[i], from[i], act[i], arg[i], to[i]];
+        put(buffer, at, &row);
         at += 5;
         i += 1;
     }
-}
-
-// Stores seven bytes from a place on.
-fn put_seven(buffer: &mut [u8], at: usize, a: u8, b: u8, c: u8, d: u8, e: u8, f: u8, g: u8)
-    requires { ⌜ at + 7 ≤ length (now buffer) ⌝ }
-    ensures { λ _. ⌜ now (buffer .exit) ≡ sets (now (buffer .entry)) at (a ∷ b ∷ c ∷ d ∷ e ∷ f ∷ g ∷ []) ⌝ }
-{
-    buffer[at] = a;
-    buffer[at + 1] = b;
-    buffer[at + 2] = c;
-    buffer[at + 3] = d;
-    buffer[at + 4] = e;
-    buffer[at + 5] = f;
-    buffer[at + 6] = g;
 }
 
 // Writes a recipe record to the buffer's start.
@@ -73,9 +60,7 @@ pub fn put_recipe(recipe: Recipe, buffer: &mut [u8])
     let mut at = 1;
     let mut i = 0;
     while i < 64 {
-        put_seven(
-            buffer,
-            at,
+        let row = [
             point[i],
             kind[i],
             op[i],
@@ -83,7 +68,8 @@ pub fn put_recipe(recipe: Recipe, buffer: &mut [u8])
             gives[i],
             then[i],
             otherwise[i],
-        );
+        ];
+        put(buffer, at, &row);
         at += 7;
         i += 1;
     }
@@ -97,7 +83,8 @@ pub fn put_run(run: Run, buffer: &mut [u8])
     let configuration = run.configuration;
     let state = configuration.state;
     let place = configuration.place;
-    put_five(buffer, 0, run.point, state[0], state[1], state[2], state[3]);
-    put_five(buffer, 5, state[4], state[5], place[0], place[1], place[2]);
-    put_five(buffer, 10, place[3], place[4], place[5], place[6], place[7]);
+    let point = [run.point];
+    put(buffer, 0, &point);
+    put(buffer, 1, &state);
+    put(buffer, 7, &place);
 }

@@ -27,26 +27,29 @@ loop-holds c =
     let n = start .args .cell .count in
     (omega arith, simp length-set (start .pre .1), put-none (cellRow (start .args .cell)) 5 n e (omega arith))
 
-array-read-put-five : tie.Need-array-read-put-five Inv-loop μ-loop
-array-read-put-five c = omega arith
+array-read-t17 : tie.Need-array-read-t17 Inv-loop μ-loop
+array-read-t17 c = omega arith
 
-array-read-put-five-2 : tie.Need-array-read-put-five-2 Inv-loop μ-loop
-array-read-put-five-2 c = omega arith
+array-read-t20 : tie.Need-array-read-t20 Inv-loop μ-loop
+array-read-t20 c = omega arith
 
-array-read-put-five-3 : tie.Need-array-read-put-five-3 Inv-loop μ-loop
-array-read-put-five-3 c = omega arith
+array-read-t23 : tie.Need-array-read-t23 Inv-loop μ-loop
+array-read-t23 c = omega arith
 
-array-read-put-five-4 : tie.Need-array-read-put-five-4 Inv-loop μ-loop
-array-read-put-five-4 c = omega arith
+array-read-t26 : tie.Need-array-read-t26 Inv-loop μ-loop
+array-read-t26 c = omega arith
 
-array-read-put-five-5 : tie.Need-array-read-put-five-5 Inv-loop μ-loop
-array-read-put-five-5 c = omega arith
+array-read-t29 : tie.Need-array-read-t29 Inv-loop μ-loop
+array-read-t29 c = omega arith
 
-put-five-requires : tie.Need-put-five-requires Inv-loop μ-loop
-put-five-requires c κs = let p = c .before .before .loop .inv .2 in omega (arith, p .at-is, p .size)
+slice-aggregate-put : tie.Need-slice-aggregate-put Inv-loop μ-loop
+slice-aggregate-put c = refl
+
+put-requires : tie.Need-put-requires Inv-loop μ-loop
+put-requires c κs = let p = c .before .before .before .loop .inv .2 in omega (arith, p .at-is, p .size)
 
 add-at : tie.Need-add-at Inv-loop μ-loop
-add-at c = let p = c .before .before .before .before .before .loop .inv .2 in omega (arith, p .at-is)
+add-at c = let p = c .before .before .before .before .before .before .loop .inv .2 in omega (arith, p .at-is)
 
 add-i : tie.Need-add-i Inv-loop μ-loop
 add-i c = omega arith
@@ -57,13 +60,14 @@ loop-less c = omega arith
 loop-again : tie.Need-loop-again Inv-loop μ-loop
 unfolding cellRow
 loop-again c =
-    let at-put-five = c .before .before in
-    let head = at-put-five .before .before .before in
+    let at-put = c .before .before in
+    let head = at-put .before .before .before .before in
     let start = head .before .before .before .before .before .before .before in
     let l = head .loop in
     let x = start .args .cell in
     let old = set (start .args .buffer .now) 0 (x .count) in
-    (omega arith, l .inv .1, rw (at-put-five .put-five .ensures) (put-more (cellRow x) 5 (λ n. refl) (x .count) old (l .i) (l .at) (l .buffer) (l .inv .2) (omega (arith, l .inv .2 .at-is))))
+    let put = put-more (cellRow x) 5 (λ n. refl) (x .count) old (l .i) (l .at) (l .buffer) (l .inv .2) in
+    (omega arith, l .inv .1, rw (at-put .put .ensures) (put (omega (arith, l .inv .2 .at-is))))
 
 same-length : tie.Need-same-length Inv-loop μ-loop
 same-length c = c .before .loop .inv .2 .size ∙ simp length-set
@@ -85,12 +89,13 @@ put-cell-spec =
     cast-buffer
     slice-write-buffer
     loop-holds
-    array-read-put-five
-    array-read-put-five-2
-    array-read-put-five-3
-    array-read-put-five-4
-    array-read-put-five-5
-    put-five-requires
+    array-read-t17
+    array-read-t20
+    array-read-t23
+    array-read-t26
+    array-read-t29
+    slice-aggregate-put
+    put-requires
     add-at
     add-i
     loop-less

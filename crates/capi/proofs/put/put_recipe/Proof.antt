@@ -26,32 +26,35 @@ loop-holds c =
     let n = start .args .recipe .count in
     (omega arith, simp length-set (start .pre .1), put-none (recipeRow (start .args .recipe)) 7 n e (omega arith))
 
-array-read-put-seven : tie.Need-array-read-put-seven Inv-loop μ-loop
-array-read-put-seven c = omega arith
+array-read-t19 : tie.Need-array-read-t19 Inv-loop μ-loop
+array-read-t19 c = omega arith
 
-array-read-put-seven-2 : tie.Need-array-read-put-seven-2 Inv-loop μ-loop
-array-read-put-seven-2 c = omega arith
+array-read-t22 : tie.Need-array-read-t22 Inv-loop μ-loop
+array-read-t22 c = omega arith
 
-array-read-put-seven-3 : tie.Need-array-read-put-seven-3 Inv-loop μ-loop
-array-read-put-seven-3 c = omega arith
+array-read-t25 : tie.Need-array-read-t25 Inv-loop μ-loop
+array-read-t25 c = omega arith
 
-array-read-put-seven-4 : tie.Need-array-read-put-seven-4 Inv-loop μ-loop
-array-read-put-seven-4 c = omega arith
+array-read-t28 : tie.Need-array-read-t28 Inv-loop μ-loop
+array-read-t28 c = omega arith
 
-array-read-put-seven-5 : tie.Need-array-read-put-seven-5 Inv-loop μ-loop
-array-read-put-seven-5 c = omega arith
+array-read-t31 : tie.Need-array-read-t31 Inv-loop μ-loop
+array-read-t31 c = omega arith
 
-array-read-put-seven-6 : tie.Need-array-read-put-seven-6 Inv-loop μ-loop
-array-read-put-seven-6 c = omega arith
+array-read-t34 : tie.Need-array-read-t34 Inv-loop μ-loop
+array-read-t34 c = omega arith
 
-array-read-put-seven-7 : tie.Need-array-read-put-seven-7 Inv-loop μ-loop
-array-read-put-seven-7 c = omega arith
+array-read-t37 : tie.Need-array-read-t37 Inv-loop μ-loop
+array-read-t37 c = omega arith
 
-put-seven-requires : tie.Need-put-seven-requires Inv-loop μ-loop
-put-seven-requires c κs = let p = c .before .before .loop .inv .2 in omega (arith, p .at-is, p .size)
+slice-aggregate-put : tie.Need-slice-aggregate-put Inv-loop μ-loop
+slice-aggregate-put c = refl
+
+put-requires : tie.Need-put-requires Inv-loop μ-loop
+put-requires c κs = let p = c .before .before .before .loop .inv .2 in omega (arith, p .at-is, p .size)
 
 add-at : tie.Need-add-at Inv-loop μ-loop
-add-at c = let p = c .before .before .before .before .before .loop .inv .2 in omega (arith, p .at-is)
+add-at c = let p = c .before .before .before .before .before .before .loop .inv .2 in omega (arith, p .at-is)
 
 add-i : tie.Need-add-i Inv-loop μ-loop
 add-i c = omega arith
@@ -62,13 +65,14 @@ loop-less c = omega arith
 loop-again : tie.Need-loop-again Inv-loop μ-loop
 unfolding recipeRow
 loop-again c =
-    let at-put-seven = c .before .before in
-    let head = at-put-seven .before .before .before in
+    let at-put = c .before .before in
+    let head = at-put .before .before .before .before in
     let start = head .before .before .before .before .before .before .before .before .before in
     let l = head .loop in
     let x = start .args .recipe in
     let old = set (start .args .buffer .now) 0 (x .count) in
-    (omega arith, l .inv .1, rw (at-put-seven .put-seven .ensures) (put-more (recipeRow x) 7 (λ n. refl) (x .count) old (l .i) (l .at) (l .buffer) (l .inv .2) (omega (arith, l .inv .2 .at-is))))
+    let put = put-more (recipeRow x) 7 (λ n. refl) (x .count) old (l .i) (l .at) (l .buffer) (l .inv .2) in
+    (omega arith, l .inv .1, rw (at-put .put .ensures) (put (omega (arith, l .inv .2 .at-is))))
 
 same-length : tie.Need-same-length Inv-loop μ-loop
 same-length c = c .before .loop .inv .2 .size ∙ simp length-set
@@ -90,14 +94,15 @@ put-recipe-spec =
     cast-buffer
     slice-write-buffer
     loop-holds
-    array-read-put-seven
-    array-read-put-seven-2
-    array-read-put-seven-3
-    array-read-put-seven-4
-    array-read-put-seven-5
-    array-read-put-seven-6
-    array-read-put-seven-7
-    put-seven-requires
+    array-read-t19
+    array-read-t22
+    array-read-t25
+    array-read-t28
+    array-read-t31
+    array-read-t34
+    array-read-t37
+    slice-aggregate-put
+    put-requires
     add-at
     add-i
     loop-less
