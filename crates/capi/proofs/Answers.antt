@@ -14,14 +14,14 @@ use Rattle.recipe.specs.declared.Recipe.{Recipe}
 use Rattle.run.specs.declared.Report.{Report}
 use Rattle.planner.specs.Call.{PlanCall}
 use Rattle.capi.specs.Encoding.{codeOf, runBytes}
-use Rattle.capi.specs.Answer.{Answered, Reported, PlanAnswered}
+use Rattle.capi.specs.Answer.{BufferAnswered, Reported, PlanAnswered}
 
 module _ (verdict : Verdict) (bytes : List ℕ) (size : ℕ) (entry : List ℕ) where
-  pub too-short : (answer : ℕ) → length entry < size → answer ≡ numberOf TooShort → Answered verdict bytes size entry entry answer
+  pub too-short : (answer : ℕ) → length entry < size → answer ≡ numberOf TooShort → BufferAnswered verdict bytes size entry entry answer
   too-short answer short e = record { answer-is = rw (lt-ltb (length entry) size short) e; buffer-is = rw (lt-ltb (length entry) size short) }
 
   pub answered : (exit : List ℕ) (answer : ℕ) → size ≤ length entry → answer ≡ codeOf verdict → exit ≡ bytes ++ drop size entry
-      → Answered verdict bytes size entry exit answer
+      → BufferAnswered verdict bytes size entry exit answer
   answered exit answer room e put = record { answer-is = rw (le-ltb (length entry) size room) e; buffer-is = rw (le-ltb (length entry) size room) put }
 
 -- the two ends of a report: the lent run is too short and stays, or it holds the answer's run

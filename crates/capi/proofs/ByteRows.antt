@@ -54,7 +54,8 @@ put-three old first second third x y z m n k e f g lx ly lz room =
     let none : length {A = ℕ} [] + length x ≡ m = omega (arith, lx) in
     let one : sets old 0 x ≡ x ++ drop m old = put-after [] old x (omega (arith, lx)) ∙ ap (λ (i : ℕ). x ++ drop i old) none in
     let two : sets (x ++ drop m old) m y ≡ (x ++ y) ++ drop n old =
-    ap (λ (i : ℕ). sets (x ++ drop i old) i y) (sym lx) ∙ put-after x old y (omega (arith, lx)) ∙ ap (λ (i : ℕ). (x ++ y) ++ drop (i + length y) old) lx ∙ ap (λ (i : ℕ). (x ++ y) ++ drop i old) ly in
+    ap (λ (i : ℕ). sets (x ++ drop i old) i y) (sym lx) ∙ put-after x old y (omega (arith, lx))
+    ∙ ap (λ (i : ℕ). (x ++ y) ++ drop (i + length y) old) lx ∙ ap (λ (i : ℕ). (x ++ y) ++ drop i old) ly in
     let both : length (x ++ y) ≡ n = length-append x y ∙ ap (λ (i : ℕ). i + length y) lx ∙ ly in
     g ∙ ap (λ (b : List ℕ). sets b n z) (f ∙ ap (λ (b : List ℕ). sets b m y) (e ∙ one) ∙ two)
     ∙ ap (λ (i : ℕ). sets ((x ++ y) ++ drop i old) i z) (sym both)
@@ -63,15 +64,24 @@ put-three old first second third x y z m n k e f g lx ly lz room =
     ∙ ap (λ (i : ℕ). ((x ++ y) ++ z) ++ drop i old) lz
 
 -- the first byte, and i rows of k bytes each, are put
-pub record Put (row : ℕ → List ℕ) (k count : ℕ) (old : List ℕ) (i at : ℕ) (buffer : List ℕ) : Type 0 where
+pub record RowsPut (row : ℕ → List ℕ) (k count : ℕ) (old : List ℕ) (i at : ℕ) (buffer : List ℕ) : Type 0 where
   pub at-is : at ≡ 1 + k * i
   pub size : length buffer ≡ length old
   pub is : buffer ≡ (count ∷ rowsOf row i) ++ drop at old
 
-pub put-none : (row : ℕ → List ℕ) (k count : ℕ) (entry : List ℕ) → 0 < length entry → Put row k count (set entry 0 count) 0 1 (set entry 0 count)
+pub put-none : (row : ℕ → List ℕ) (k count : ℕ) (entry : List ℕ) → 0 < length entry
+    → RowsPut row k count (set entry 0 count) 0 1 (set entry 0 count)
 unfolding rowsOf
 put-none row k count entry some =
-    record { at-is = omega arith; size = refl; is = set-split entry 0 count some ∙ ap (λ (l : List ℕ). count ∷ l) (sym (drop-set-lt 1 entry 0 count (omega arith))) }
+    record {
+      at-is =
+          omega arith;
+      size =
+          refl;
+      is =
+          set-split entry 0 count some
+          ∙ ap (λ (l : List ℕ). count ∷ l) (sym (drop-set-lt 1 entry 0 count (omega arith)));
+    }
 
 module _ (row : ℕ → List ℕ) (k : ℕ) (wide : (n : ℕ) → length (row n) ≡ k) where
   pub rows-length : (n : ℕ) → length (rowsOf row n) ≡ k * n
@@ -79,8 +89,8 @@ module _ (row : ℕ → List ℕ) (k : ℕ) (wide : (n : ℕ) → length (row n)
   rows-length zero = omega arith
   rows-length (suc n) = length-append (rowsOf row n) (row n) ∙ omega (arith, rows-length n, wide n)
 
-  module _ (count : ℕ) (old : List ℕ) (i at : ℕ) (buffer : List ℕ) (P : Put row k count old i at buffer) where
-    pub put-more : at + k ≤ length old → Put row k count old (i + 1) (at + k) (sets buffer at (row i))
+  module _ (count : ℕ) (old : List ℕ) (i at : ℕ) (buffer : List ℕ) (P : RowsPut row k count old i at buffer) where
+    pub put-more : at + k ≤ length old → RowsPut row k count old (i + 1) (at + k) (sets buffer at (row i))
     unfolding rowsOf
     put-more room =
         let next : length (count ∷ rowsOf row i) + length (row i) ≡ at + k = omega (arith, rows-length i, P .at-is, wide i) in
@@ -97,7 +107,8 @@ module _ (row : ℕ → List ℕ) (k : ℕ) (wide : (n : ℕ) → length (row n)
         }
 
 -- all rows are put
-pub put-all : (row : ℕ → List ℕ) (k count : ℕ) (entry : List ℕ) (i at size : ℕ) (buffer : List ℕ) → Put row k count (set entry 0 count) i at buffer → i ≡ 64
+pub put-all : (row : ℕ → List ℕ) (k count : ℕ) (entry : List ℕ) (i at size : ℕ) (buffer : List ℕ)
+    → RowsPut row k count (set entry 0 count) i at buffer → i ≡ 64
     → 1 + k * 64 ≡ size
     → buffer ≡ (count ∷ rowsOf row 64) ++ drop size entry
 put-all row k count entry i at size buffer P end all =

@@ -44,7 +44,9 @@ module _ (row : ℕ → List ℕ) (k : ℕ) (wide : (n : ℕ) → length (row n)
       → columnOf k ((count ∷ rowsOf row 64) ++ rest) i ≡ column
   unfolding columnOf
   column-back count rest i column inside size same =
-      tabulate-is _ column 64 size (λ n low. ap (λ (m : ℕ). getD ((count ∷ rowsOf row 64) ++ rest) m 0) (place n) ∙ List·getD-append (rowsOf row 64) rest 0 (n * k + i) (within n low) ∙ row-at 64 n i low inside ∙ same n)
+      tabulate-is _ column 64 size
+      (λ n low. ap (λ (m : ℕ). getD ((count ∷ rowsOf row 64) ++ rest) m 0) (place n)
+      ∙ List·getD-append (rowsOf row 64) rest 0 (n * k + i) (within n low) ∙ row-at 64 n i low inside ∙ same n)
     where
       place : (n : ℕ) → 1 + n * k + i ≡ suc (n * k + i)
       place n = omega arith
@@ -64,7 +66,8 @@ pub cell-back : (c : Cell) (rest : List ℕ) → WholeCell c → cellFrom (cellB
 unfolding cellFrom cellBytes cellRow
 cell-back c rest whole =
     let wide : (n : ℕ) → length (cellRow c n) ≡ 5 = λ n. refl in
-    let long : 321 ≤ length ((c .count ∷ rowsOf (cellRow c) 64) ++ rest) = omega (arith, length-append (c .count ∷ rowsOf (cellRow c) 64) rest, rows-length (cellRow c) 5 wide 64) in
+    let long : 321 ≤ length ((c .count ∷ rowsOf (cellRow c) 64) ++ rest) =
+    omega (arith, length-append (c .count ∷ rowsOf (cellRow c) 64) rest, rows-length (cellRow c) 5 wide 64) in
     rw (le-ltb _ 321 long) (λ i. record {
       count = c .count;
       resource = column-back (cellRow c) 5 wide (c .count) rest 0 (c .resource) (omega arith) (whole .resource) (λ n. refl) i;
@@ -88,7 +91,8 @@ pub recipe-back : (r : Recipe) (rest : List ℕ) → WholeRecipe r → recipeFro
 unfolding recipeFrom recipeBytes recipeRow
 recipe-back r rest whole =
     let wide : (n : ℕ) → length (recipeRow r n) ≡ 7 = λ n. refl in
-    let long : 449 ≤ length ((r .count ∷ rowsOf (recipeRow r) 64) ++ rest) = omega (arith, length-append (r .count ∷ rowsOf (recipeRow r) 64) rest, rows-length (recipeRow r) 7 wide 64) in
+    let long : 449 ≤ length ((r .count ∷ rowsOf (recipeRow r) 64) ++ rest) =
+    omega (arith, length-append (r .count ∷ rowsOf (recipeRow r) 64) rest, rows-length (recipeRow r) 7 wide 64) in
     rw (le-ltb _ 449 long) (λ i. record {
       count = r .count;
       point = column-back (recipeRow r) 7 wide (r .count) rest 0 (r .point) (omega arith) (whole .point) (λ n. refl) i;

@@ -8,18 +8,18 @@ use lib.Dec.{ltb}
 use borrow.Author.Tests.{ltb-false}
 use Rattle.refusals.specs.declared.Verdict.{Verdict}
 use Rattle.refusals.specs.declared.Verdict.the-variants.{Accepted, Refused}
-use Rattle.refusals.specs.Verdict.{refusalIn}
+use Rattle.refusals.specs.Verdict.{ifAccepted, refusalIn}
 use Rattle.cell.specs.declared.Cell.{Cell}
 use Rattle.recipe.specs.declared.Recipe.{Recipe}
 use Rattle.run.specs.declared.Run.{Run}
-use Rattle.run.specs.Calls.{reportAnswer, reportOf}
+use Rattle.run.specs.Calls.{reportOf}
 use Rattle.capi.specs.Encoding.{runBytes, runFrom}
 use Rattle.capi.specs.Answer.{Reported}
 use Rattle.capi.proofs.BytesRoundTrip.{run-bytes-back}
 
 -- "a refused report its own run"
-own-run : (verdict : Verdict) (run next : Run) → (refusalIn (reportAnswer verdict run next .verdict) ≡ 0 → ⊥) → reportAnswer verdict run next .run ≡ run
-unfolding reportAnswer refusalIn
+own-run : (verdict : Verdict) (run next : Run) → (refusalIn verdict ≡ 0 → ⊥) → ifAccepted verdict next run ≡ run
+unfolding ifAccepted refusalIn
 own-run Accepted run next refused = absurd (refused refl)
 own-run (Refused refusal line) run next refused = refl
 
@@ -35,7 +35,8 @@ refused-stays c r table entry exit outcome answer told refused = told .run-is �
     same : reportOf c r table (runFrom entry) outcome .run ≡ runFrom entry
     same = own-run _ (runFrom entry) _ (λ none. refused (told .answer-is ∙ none))
 
-    decide : (short : Bool) → ltb (length entry) 15 ≡ short → cond short entry (runBytes (reportOf c r table (runFrom entry) outcome .run) ++ drop 15 entry) ≡ entry
+    decide : (short : Bool) → ltb (length entry) 15 ≡ short
+        → cond short entry (runBytes (reportOf c r table (runFrom entry) outcome .run) ++ drop 15 entry) ≡ entry
     decide true e = refl
     decide false e =
         ap (λ (run : Run). runBytes run ++ drop 15 entry) same

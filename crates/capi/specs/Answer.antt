@@ -15,13 +15,13 @@ use Rattle.run.specs.declared.Move.{Move}
 use Rattle.run.specs.declared.Place.{Place}
 use Rattle.run.specs.declared.Report.{Report}
 use Rattle.run.specs.declared.Run.{Run}
-use Rattle.run.specs.Record.{Stored}
+use Rattle.run.specs.Calls.{Stored}
 use Rattle.planner.specs.Call.{PlanCall}
 use Rattle.capi.specs.Encoding.{codeOf, runBytes}
 
 -- a buffer lent for the answer that is too short gets 14 with line 0, whatever else was handed in, and stays as it was;
 -- otherwise the answer is the verdict's, the buffer begins with the record's bytes, refused or not, and its rest stays
-pub record Answered (verdict : Verdict) (bytes : List ℕ) (size : ℕ) (entry exit : List ℕ) (answer : ℕ) : Type 0 where
+pub record BufferAnswered (verdict : Verdict) (bytes : List ℕ) (size : ℕ) (entry exit : List ℕ) (answer : ℕ) : Type 0 where
   pub answer-is : answer ≡ cond (ltb (length entry) size) (numberOf TooShort) (codeOf verdict)
   pub buffer-is : exit ≡ cond (ltb (length entry) size) entry (bytes ++ drop size entry)
 

@@ -30,7 +30,9 @@ cellBytes c = c .count ∷ rowsOf (cellRow c) 64
 
 -- a line of a recipe record: point, kind, op, takes, gives, then, else
 unfoldable pub recipeRow : Recipe → ℕ → List ℕ
-recipeRow r n = getD (r .point) n 0 ∷ getD (r .kind) n 0 ∷ getD (r .op) n 0 ∷ getD (r .takes) n 0 ∷ getD (r .gives) n 0 ∷ getD (r .then) n 0 ∷ getD (r .otherwise) n 0 ∷ []
+recipeRow r n =
+    getD (r .point) n 0 ∷ getD (r .kind) n 0 ∷ getD (r .op) n 0 ∷ getD (r .takes) n 0 ∷ getD (r .gives) n 0 ∷ getD
+    (r .then) n 0 ∷ getD (r .otherwise) n 0 ∷ []
 
 -- the 449 bytes of a recipe record: byte 0 is the line count, then follow the 64 lines
 unfoldable pub recipeBytes : Recipe → List ℕ

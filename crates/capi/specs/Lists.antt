@@ -5,6 +5,7 @@ use mathlib.Core.List.{List, [], _∷_, map}
 use Prim.Native.Nat.{ℕ, _+_, _*_, _^_}
 use Rattle.cell.specs.declared.Cell.{Cell}
 use Rattle.recipe.specs.declared.Recipe.{Recipe}
+use Rattle.positions.specs.Sizes.{sizesOf}
 use Rattle.run.specs.declared.Run.{Run}
 use Rattle.run.specs.Calls.{nextMove, reportOf}
 use Rattle.run.specs.Book.{Call, asks, reports, Answer, moved, reported, opened, byTable, moments, answers}
@@ -13,48 +14,49 @@ use Rattle.capi.specs.Encoding.{cellFrom, recipeFrom, runBytes, runFrom}
 use Rattle.capi.specs.Answer.{moveCode, Reported, Recorded}
 
 -- what a caller has after a call: a next-move call's number; a report's number, and the run that the bytes then hold
-pub data Found : Type 0 where
-  numbered : ℕ → Found
-  held : ℕ → Run → Found
+pub data Seen : Type 0 where
+  numbered : ℕ → Seen
+  held : ℕ → Run → Seen
 
 -- an answer of the book as a caller has it: refusal × 2^32 + entry; or the refusal or 0, and the run that the bytes then hold
-unfoldable pub foundOf : Answer → Found
-foundOf (moved refusal entry) = numbered (refusal * 2 ^ 32 + entry)
-foundOf (reported refusal point configuration) = held refusal (record { point = point; configuration = configuration })
+unfoldable pub seenOf : Answer → Seen
+seenOf (moved refusal entry) = numbered (refusal * 2 ^ 32 + entry)
+seenOf (reported refusal point configuration) = held refusal (record { point = point; configuration = configuration })
 
 -- a list of calls on the bytes of a run, with what is found. Of each call only its contract is known; a next-move call is lent
 -- the bytes to read, and leaves them
-pub data ByteCalls (cell recipe table : List ℕ) : List ℕ → List Call → List Found → Type 0 where
+pub data ByteCalls (cell recipe table : List ℕ) : List ℕ → List Call → List Seen → Type 0 where
   no-call : {bytes : List ℕ} → ByteCalls cell recipe table bytes [] []
-  ask-then : {bytes : List ℕ} {number : ℕ} {calls : List Call} {later : List Found}
+  ask-then : {bytes : List ℕ} {number : ℕ} {calls : List Call} {later : List Seen}
       → number ≡ moveCode (nextMove (cellFrom cell) (recipeFrom recipe) table (runFrom bytes))
       → ByteCalls cell recipe table bytes calls later
       → ByteCalls cell recipe table bytes (asks ∷ calls) (numbered number ∷ later)
-  report-then : {entry exit : List ℕ} {outcome answer : ℕ} {calls : List Call} {later : List Found}
+  report-then : {entry exit : List ℕ} {outcome answer : ℕ} {calls : List Call} {later : List Seen}
       → Reported (reportOf (cellFrom cell) (recipeFrom recipe) table (runFrom entry) outcome) entry exit answer
       → ByteCalls cell recipe table exit calls later
       → ByteCalls cell recipe table entry (reports outcome ∷ calls) (held answer (runFrom exit) ∷ later)
 
 -- "The same holds of lists whose reports all have the second form, the run being the line screen's record": a next-move call is
 -- lent the record's bytes
-pub data RecordCalls (cell recipe table : List ℕ) : Run → List Call → List Found → Type 0 where
+pub data RecordCalls (cell recipe table : List ℕ) : Run → List Call → List Seen → Type 0 where
   record-none : {before : Run} → RecordCalls cell recipe table before [] []
-  record-asks : {before : Run} {number : ℕ} {calls : List Call} {later : List Found}
+  record-asks : {before : Run} {number : ℕ} {calls : List Call} {later : List Seen}
       → number ≡ moveCode (nextMove (cellFrom cell) (recipeFrom recipe) table (runFrom (runBytes before)))
       → RecordCalls cell recipe table before calls later
       → RecordCalls cell recipe table before (asks ∷ calls) (numbered number ∷ later)
-  record-reports : {before after : Run} {outcome answer : ℕ} {calls : List Call} {later : List Found}
+  record-reports : {before after : Run} {outcome answer : ℕ} {calls : List Call} {later : List Seen}
       → Recorded (cellFrom cell) (recipeFrom recipe) table before outcome after answer
       → RecordCalls cell recipe table after calls later
       → RecordCalls cell recipe table before (reports outcome ∷ calls) (held answer after ∷ later)
 
 -- demand 3 for a list of calls from a run, whatever may be found
-pub record ListPromises (c : Cell) (r : Recipe) (table : List ℕ) (run : Run) (calls : List Call) (Finds : List Found → Type 0) : Type 0 where
+pub record ListPromises (c : Cell) (r : Recipe) (table : List ℕ) (run : Run) (calls : List Call) (Finds : List Seen → Type 0) : Type 0 where
   pub same-answers :
-      (found : List Found)
+      (found : List Seen)
       → Finds found
-      → found ≡ map foundOf (answers c r (moments c r (byTable c r table) [] (opened (run .point) (run .configuration)) calls))
-  pub keeps : Keeps c r (run .point) (moments c r (byTable c r table) [] (opened (run .point) (run .configuration)) calls)
+      → found ≡ map seenOf (answers c r (moments c r (byTable (sizesOf c r) table) [] (opened (run .point) (run .configuration)) calls))
+  pub keeps : Keeps c r (sizesOf c r) (run .point)
+      (moments c r (byTable (sizesOf c r) table) [] (opened (run .point) (run .configuration)) calls)
 
 -- by calls on bytes that hold a run, and by calls on a record, within their contracts
 abbrev pub BytePromises : List ℕ → List ℕ → List ℕ → List ℕ → List Call → Type 0

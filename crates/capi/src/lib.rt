@@ -12,7 +12,7 @@ ghost use Rattle.refusals.specs.Verdict.{refusalIn};
 ghost use Rattle.positions.specs.Rules.{checkSizes};
 ghost use Rattle.run.specs.Calls.{freshRun, nextMove, reportOf, partPlace};
 ghost use Rattle.capi.specs.Encoding.{codeOf, cellBytes, recipeBytes, cellFrom, recipeFrom, runBytes, runFrom};
-ghost use Rattle.capi.specs.Answer.{Answered, moveCode, placeCode, Reported, Recorded, PlanAnswered};
+ghost use Rattle.capi.specs.Answer.{BufferAnswered, moveCode, placeCode, Reported, Recorded, PlanAnswered};
 use refusals::Refusal;
 use refusals::Verdict;
 use run::Run;
@@ -33,7 +33,7 @@ fn code(verdict: Verdict) -> u64
 // Reads a cell file into the 321 bytes of a record.
 #[no_mangle]
 pub extern "C" fn cellplan_read_cell(file: &[u8], buffer: &mut [u8]) -> u64
-    ensures { λ r. ⌜ Answered (readCell (now (file .entry)) .verdict) (cellBytes (readCell (now (file .entry)) .cell)) 321 (now (buffer .entry)) (now (buffer .exit)) r ⌝ }
+    ensures { λ r. ⌜ BufferAnswered (readCell (now (file .entry)) .verdict) (cellBytes (readCell (now (file .entry)) .cell)) 321 (now (buffer .entry)) (now (buffer .exit)) r ⌝ }
 {
     if buffer.len() < 321 {
         return refusals::number(Refusal::TooShort) as u64;
@@ -48,7 +48,7 @@ pub extern "C" fn cellplan_read_cell(file: &[u8], buffer: &mut [u8]) -> u64
 // Reads a recipe file into the 449 bytes of a record.
 #[no_mangle]
 pub extern "C" fn cellplan_read_recipe(file: &[u8], buffer: &mut [u8]) -> u64
-    ensures { λ r. ⌜ Answered (readRecipe (now (file .entry)) .verdict) (recipeBytes (readRecipe (now (file .entry)) .recipe)) 449 (now (buffer .entry)) (now (buffer .exit)) r ⌝ }
+    ensures { λ r. ⌜ BufferAnswered (readRecipe (now (file .entry)) .verdict) (recipeBytes (readRecipe (now (file .entry)) .recipe)) 449 (now (buffer .entry)) (now (buffer .exit)) r ⌝ }
 {
     if buffer.len() < 449 {
         return refusals::number(Refusal::TooShort) as u64;
@@ -114,7 +114,7 @@ pub extern "C" fn cellplan_plan(
 // Writes a fresh run.
 #[no_mangle]
 pub extern "C" fn cellplan_fresh(buffer: &mut [u8]) -> u32
-    ensures { λ r. ⌜ Answered Accepted (runBytes freshRun) 15 (now (buffer .entry)) (now (buffer .exit)) r ⌝ }
+    ensures { λ r. ⌜ BufferAnswered Accepted (runBytes freshRun) 15 (now (buffer .entry)) (now (buffer .exit)) r ⌝ }
 {
     if buffer.len() < 15 {
         return refusals::number(Refusal::TooShort) as u32;

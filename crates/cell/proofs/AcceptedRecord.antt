@@ -9,13 +9,14 @@ use lib.ListN.{length, getD}
 use borrow.Author.Tests.{leb-true, not-false}
 use Rattle.refusals.specs.declared.Verdict.the-variants.{Accepted, Refused}
 use Rattle.refusals.specs.declared.Verdict.{Verdict}
-use Rattle.refusals.specs.Verdict.{rule3}
+use Rattle.refusals.specs.Verdict.{rule3, ifAccepted}
 use Rattle.refusals.proofs.Verdicts.{and-left, and-right, none-breaks, count-in-range}
 use Rattle.refusals.proofs.Rules.{first-accepts, rest-accepts}
 use Rattle.tables.specs.Lines.{valueLines}
 use Rattle.cell.specs.declared.Cell.{Cell}
-use Rattle.cell.specs.Reader.{cellOf, judgeCell, reading, readCell}
-use Rattle.cell.specs.Rules.{inRange, leavesRange, rule4, rule5, rule6, afterRange, cellRules, checkCell}
+use Rattle.cell.specs.Reader.{cellOf, judgeCell, readCell}
+use Rattle.cell.specs.Steps.{reading}
+use Rattle.cell.specs.Rules.{inRange, leavesRange, rule4, rule5, rule6, cellRules, checkCell}
 
 -- what rule 4 leaves of the numbers of line n
 pub record LineInRange (c : Cell) (n : ℕ) : Type 0 where
@@ -28,7 +29,9 @@ pub record LineInRange (c : Cell) (n : ℕ) : Type 0 where
 pub line-in-range : (c : Cell) → rule4 c ≡ Accepted → (n : ℕ) → n < c .count → LineInRange c n
 unfolding rule4 leavesRange inRange
 line-in-range c e n low =
-    let all : inRange (getD (c .resource) n 0) (getD (c .from) n 0) (getD (c .act) n 0) (getD (c .arg) n 0) (getD (c .to) n 0) ≡ true = not-false _ (none-breaks _ _ _ e n low) in
+    let all : inRange (getD (c .resource) n 0) (getD (c .from) n 0) (getD (c .act) n 0) (getD (c .arg) n 0)
+    (getD (c .to) n 0) ≡ true =
+    not-false _ (none-breaks _ _ _ e n low) in
     record {
       resource = leb-true _ _ (search and-left);
       from = leb-true _ _ (search (and-left, and-right));
@@ -45,7 +48,7 @@ pub record EachAccepts (c : Cell) : Type 0 where
   pub sixth : rule6 c ≡ Accepted
 
 pub each-accepts : (c : Cell) → checkCell c ≡ Accepted → EachAccepts c
-unfolding checkCell cellRules afterRange
+unfolding checkCell cellRules
 each-accepts c e =
     record {
       third = search first-accepts;
@@ -56,7 +59,7 @@ each-accepts c e =
 
 -- a reader's record has at most 64 lines, refused or not
 pub read-few : (file : List ℕ) → readCell file .cell .count ≤ 64
-unfolding readCell judgeCell reading cellOf checkCell
+unfolding readCell judgeCell reading ifAccepted cellOf checkCell
 read-few file = judge (judgeCell file) refl
   where
     judge : (v : Verdict) → judgeCell file ≡ v → reading v (cellOf file) .cell .count ≤ 64

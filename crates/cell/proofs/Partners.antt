@@ -9,10 +9,12 @@ use lib.Dec.{eqb}
 use borrow.Author.Tests.{eq-eqb, ne-eqb, eqb-false}
 use Rattle.refusals.specs.Search.{anyBelow}
 use Rattle.refusals.proofs.Scan.{any-hit}
-use Rattle.cell.specs.Rules.{inOrOut, partner, unpaired}
+use Rattle.cell.specs.Rules.{partner, unpaired}
+
+abbrev inOrOut : ℕ → Bool
+inOrOut act = eqb act 2 || eqb act 3
 
 in-or-out : (a : ℕ) → 2 ≤ a → a ≤ 3 → inOrOut a ≡ true
-unfolding inOrOut
 in-or-out a low high = decide (eqb a 2) refl
   where
     decide : (b : Bool) → eqb a 2 ≡ b → (eqb a 2 || eqb a 3) ≡ true
@@ -21,7 +23,7 @@ in-or-out a low high = decide (eqb a 2) refl
 
 module _ (resource act arg : List ℕ) (count i : ℕ) where
   pub neither : (getD act i 0 ≡ 2 → ⊥) → (getD act i 0 ≡ 3 → ⊥) → unpaired resource act arg count i ≡ false
-  unfolding unpaired inOrOut
+  unfolding unpaired
   neither two three = rw (ne-eqb (getD act i 0) 2 two, ne-eqb (getD act i 0) 3 three)
 
   pub paired : (k : ℕ) → k < count → partner resource act arg i k ≡ true → unpaired resource act arg count i ≡ false

@@ -9,7 +9,7 @@ use Rattle.refusals.specs.declared.Verdict.{Verdict}
 use Rattle.refusals.specs.declared.Verdict.the-variants.{Refused}
 use Rattle.refusals.specs.declared.Refusal.the-variants.{Range}
 use Rattle.refusals.specs.Search.{firstBelow}
-use Rattle.refusals.specs.Verdict.{firstRefusal}
+use Rattle.refusals.specs.Verdict.{firstRefusal, ifAccepted}
 use Rattle.refusals.proofs.Scan.{first-same, first-both}
 use Rattle.refusals.proofs.Verdicts.{broken, kept}
 use Rattle.tables.specs.declared.Column.{Column}
@@ -17,8 +17,9 @@ use Rattle.tables.specs.Lines.{valueLines}
 use Rattle.tables.specs.Table.{numberAt, column}
 use Rattle.tables.specs.Reading.{Kept, within, Ranged}
 use Rattle.tables.proofs.Columns.{within-most, column-at, OfFile, of-file, read-all}
-use Rattle.cell.specs.Rules.{inRange, leavesRange, rule4}
-use Rattle.cell.specs.Reader.{cellOf, noCell, reading}
+use Rattle.cell.specs.Rules.{leavesRange, rule4, inRange}
+use Rattle.cell.specs.Reader.{cellOf, noCell}
+use Rattle.cell.specs.Steps.{reading}
 
 leaves : List ℕ → ℕ → Bool
 leaves f = leavesRange (column f 0) (column f 1) (column f 2) (column f 3) (column f 4)
@@ -47,7 +48,8 @@ module _
 
     R3 : OfFile f 3 0 63 (act .lines) arg
     R3 =
-        let low : act .lines ≤ count = omega (arith, R0 .fewer, R1 .fewer, R2 .fewer) in of-file f store K (act .lines) 3 0 63 arg low (omega arith) (omega arith) args
+        let low : act .lines ≤ count = omega (arith, R0 .fewer, R1 .fewer, R2 .fewer) in
+        of-file f store K (act .lines) 3 0 63 arg low (omega arith) (omega arith) args
 
     R4 : OfFile f 4 0 7 (arg .lines) to
     R4 =
@@ -56,7 +58,7 @@ module _
 
     -- together they end at the first line with a number that leaves its range
     found : to .lines ≡ firstBelow (leaves f) (length (valueLines f))
-    unfolding leavesRange inRange leaves fits
+    unfolding leavesRange leaves fits inRange
     found =
         R4 .lines-are
         ∙ ap (firstBelow (λ i. not (fits f 4 7 i))) (R3 .lines-are)
@@ -88,13 +90,24 @@ module _
         )
 
     -- a number leaves its range
-    pub stored-out : (rest : List Verdict) → to .lines < count → reading (Refused Range (to .lines + 2)) noCell ≡ reading (firstRefusal (rule4 (cellOf f) ∷ rest)) (cellOf f)
-    unfolding reading rule4 cellOf leaves
+    pub stored-out : (rest : List Verdict) → to .lines < count
+        → reading (Refused Range (to .lines + 2)) noCell ≡ reading (firstRefusal (rule4 (cellOf f) ∷ rest)) (cellOf f)
+    unfolding reading ifAccepted rule4 cellOf leaves
     stored-out rest low = ap (λ (v : Verdict). reading v (cellOf f)) (broken Range (leaves f) (length (valueLines f)) (to .lines) found rest (omega arith))
 
     -- all are in range: the record is the file's, and rule 4 leaves it to the others
     module _ (past : count ≤ to .lines) where
-      pub stored-cell : record { count = count; resource = resource .values; from = from .values; act = act .values; arg = arg .values; to = to .values } ≡ cellOf f
+      pub stored-cell : record {
+        count =
+            count;
+        resource =
+            resource .values;
+        from = from .values;
+        act = act .values;
+        arg = arg .values;
+        to = to .values;
+      } ≡ cellOf
+          f
       unfolding cellOf
       stored-cell =
           let most0 : resource .lines ≤ count = R0 .fewer in

@@ -3,8 +3,7 @@ use mathlib.Core.List.{List, [], _∷_}
 use Prim.Native.Nat.{ℕ}
 use lib.ListN.{length, replicate}
 use Rattle.refusals.specs.declared.Verdict.{Verdict}
-use Rattle.refusals.specs.declared.Verdict.the-variants.{Accepted, Refused}
-use Rattle.refusals.specs.Verdict.{firstRefusal}
+use Rattle.refusals.specs.Verdict.{firstRefusal, ifAccepted}
 use Rattle.tables.specs.Lines.{valueLines}
 use Rattle.tables.specs.Table.{rule1, rule2, column}
 use Rattle.cell.specs.declared.Cell.{Cell}
@@ -19,14 +18,8 @@ cellNames =
 -- the record that the file's value lines write, five numbers to a line
 unfoldable pub cellOf : List ℕ → Cell
 cellOf file =
-    record {
-      count = length (valueLines file);
-      resource = column file 0;
-      from = column file 1;
-      act = column file 2;
-      arg = column file 3;
-      to = column file 4;
-    }
+    let field = column file in
+    record { count = length (valueLines file); resource = field 0; from = field 1; act = field 2; arg = field 3; to = field 4 }
 
 -- "Each of the two readers tries a rule over the whole file before the next rule."
 unfoldable pub judgeCell : List ℕ → Verdict
@@ -34,14 +27,8 @@ judgeCell file = firstRefusal (rule1 cellNames file ∷ rule2 5 file ∷ cellRul
 
 -- "a record of no lines"
 abbrev pub noCell : Cell
-noCell =
-    record { count = 0; resource = replicate 64 0; from = replicate 64 0; act = replicate 64 0; arg = replicate 64 0; to = replicate 64 0 }
-
--- "With it the reader returns a record of no lines": a refusal's line goes with it
-unfoldable pub reading : Verdict → Cell → CellReading
-reading Accepted cell = record { verdict = Accepted; cell = cell }
-reading (Refused refusal line) cell = record { verdict = Refused refusal line; cell = noCell }
+noCell = let zeros : List ℕ = replicate 64 0 in record { count = 0; resource = zeros; from = zeros; act = zeros; arg = zeros; to = zeros }
 
 -- "A cell file .. gets the plan or move it deserves or the first refusal of document 01's list that fits": what the reader returns
 unfoldable pub readCell : List ℕ → CellReading
-readCell file = reading (judgeCell file) (cellOf file)
+readCell file = record { verdict = judgeCell file; cell = ifAccepted (judgeCell file) (cellOf file) noCell }

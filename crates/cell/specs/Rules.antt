@@ -7,7 +7,7 @@ use lib.ListN.{getD}
 use lib.Dec.{eqb, leb}
 use Rattle.refusals.specs.declared.Verdict.{Verdict}
 use Rattle.refusals.specs.declared.Refusal.the-variants.{Range, ResourceGap, NoPartner}
-use Rattle.refusals.specs.Search.{anyBelow, greatestBelow}
+use Rattle.refusals.specs.Search.{anyBelow, greatestBelow, isOf}
 use Rattle.refusals.specs.Verdict.{firstRefusal, firstLine, noLine, rule3}
 use Rattle.cell.specs.declared.Cell.{Cell}
 
@@ -22,10 +22,6 @@ leavesRange resource from act arg to n = not (inRange (getD resource n 0) (getD 
 -- "4. A number leaves its range."
 unfoldable pub rule4 : Cell → Verdict
 rule4 c = firstLine Range (leavesRange (c .resource) (c .from) (c .act) (c .arg) (c .to)) (c .count)
-
--- "Cell: a resource .. has no line": line n is one of resource k
-unfoldable pub isOf : List ℕ → ℕ → ℕ → Bool
-isOf resource k n = eqb (getD resource n 0) k
 
 -- "the greatest resource number"
 unfoldable pub greatestResource : List ℕ → ℕ → ℕ
@@ -50,28 +46,20 @@ otherAct act = cond (eqb act 2) 3 (cond (eqb act 3) 2 255)
 -- "line of another resource has the other act on that port": line k is one for line i
 unfoldable pub partner : List ℕ → List ℕ → List ℕ → ℕ → ℕ → Bool
 partner resource act arg i k =
-    eqb (getD act k 0) (otherAct (getD act i 0))
-    && (eqb (getD arg k 0) (getD arg i 0) && not (eqb (getD resource k 0) (getD resource i 0)))
+    eqb (getD act k 0) (otherAct (getD act i 0)) && (eqb (getD arg k 0) (getD arg i 0) && not (eqb (getD resource k 0) (getD resource i 0)))
 
--- "act: .. 2 in, 3 out"
-unfoldable pub inOrOut : ℕ → Bool
-inOrOut act = eqb act 2 || eqb act 3
-
--- "for an in or out line, no line": line i is an in or out line, and no line is a partner of it
+-- "for an in or out line, no line": line i is an in (act 2) or an out (3), and no line is a partner of it
 unfoldable pub unpaired : List ℕ → List ℕ → List ℕ → ℕ → ℕ → Bool
-unpaired resource act arg count i = inOrOut (getD act i 0) && not (anyBelow (partner resource act arg i) count)
+unpaired resource act arg count i =
+    (eqb (getD act i 0) 2 || eqb (getD act i 0) 3) && not (anyBelow (partner resource act arg i) count)
 
 -- "6. Cell: for an in or out line, no line of another resource has the other act on that port."
 unfoldable pub rule6 : Cell → Verdict
 rule6 c = firstLine NoPartner (unpaired (c .resource) (c .act) (c .arg) (c .count)) (c .count)
 
--- what is tried of a cell whose numbers are in range, in order
-unfoldable pub afterRange : Cell → List Verdict
-afterRange c = rule5 c ∷ rule6 c ∷ []
-
 -- "Planner and run calls check handed-in values anew from rule 3, cell first: all of its rules"
 unfoldable pub cellRules : Cell → List Verdict
-cellRules c = rule3 (c .count) ∷ rule4 c ∷ afterRange c
+cellRules c = rule3 (c .count) ∷ rule4 c ∷ rule5 c ∷ rule6 c ∷ []
 
 unfoldable pub checkCell : Cell → Verdict
 checkCell c = firstRefusal (cellRules c)

@@ -1,8 +1,8 @@
 // Rule 5: the resources from 0 to the greatest each have a line.
 ghost use mathlib.Core.Path.{_≡_};
 ghost use Prim.Native.Nat.{_≤_};
-ghost use Rattle.refusals.specs.Search.{anyBelow};
-ghost use Rattle.cell.specs.Rules.{isOf, greatestResource, gap};
+ghost use Rattle.refusals.specs.Search.{anyBelow, isOf};
+ghost use Rattle.cell.specs.Rules.{gap, greatestResource};
 
 // The greatest resource number of the lines.
 pub fn greatest(resource: &[u8; 64], count: usize) -> u8

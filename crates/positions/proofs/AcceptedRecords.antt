@@ -1,8 +1,8 @@
 -- What records have that their rules accept, with rule 13 or without it. Assumes nothing.
-use mathlib.Core.Path.{_≡_, refl, sym, _∙_}
+use mathlib.Core.Path.{_≡_}
 use mathlib.Core.List.{[], _∷_}
 use Rattle.refusals.specs.declared.Verdict.the-variants.{Accepted}
-use Rattle.refusals.proofs.Rules.{first-accepts, left-accepts, right-accepts, decides, part-accepts}
+use Rattle.refusals.proofs.Rules.{first-accepts, left-accepts, right-accepts}
 use Rattle.cell.specs.declared.Cell.{Cell}
 use Rattle.cell.specs.Rules.{cellRules, checkCell}
 use Rattle.recipe.specs.declared.Recipe.{Recipe}
@@ -17,10 +17,6 @@ module _ (c : Cell) (r : Recipe) where
   both-ok e = (left-accepts (cellRules c) (recipeRules r) e, right-accepts (cellRules c) (recipeRules r) e)
 
   -- with rule 13
-  pub sizes-ok : checkRecords c r ≡ Accepted → rule13 (sizesOf c r) ≡ Accepted → checkSizes c r ≡ Accepted
-  unfolding checkRecords checkSizes
-  sizes-ok e few = sym (part-accepts (recordRules c r) (rule13 (sizesOf c r) ∷ []) refl e (sym few ∙ decides refl))
-
   module _ (sized : checkSizes c r ≡ Accepted) where
     pub records-ok : checkRecords c r ≡ Accepted
     unfolding checkRecords checkSizes
@@ -29,9 +25,3 @@ module _ (c : Cell) (r : Recipe) where
     pub few-ok : rule13 (sizesOf c r) ≡ Accepted
     unfolding checkSizes
     few-ok = first-accepts _ _ (right-accepts (recordRules c r) (rule13 (sizesOf c r) ∷ []) sized)
-
-    pub cell-ok : checkCell c ≡ Accepted
-    cell-ok = both-ok records-ok .0
-
-    pub recipe-ok : checkRecipe r ≡ Accepted
-    recipe-ok = both-ok records-ok .1

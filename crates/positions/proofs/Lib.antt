@@ -1,5 +1,5 @@
 -- The digits of a number, the parts of a sum, the state counts by line, what accepted records have, their sizes, the numbers of states
--- and of places, and positions.
+-- and of places, positions, and a configuration's number by fourteen digits.
 pub mod Radix
 pub mod PartSums
 mod StateCounts
@@ -8,3 +8,5 @@ pub mod SizeBounds
 pub mod CheckedSizes
 pub mod StatePlaceNumbers
 pub mod PositionNumbers
+pub mod ConfigurationDigits
+pub mod DecodedDigits

@@ -2,4 +2,5 @@ pub mod Radix
 pub mod Sizes
 pub mod Position
 pub mod Rules
+pub mod Digits
 pub mod Checked

@@ -25,7 +25,8 @@ put-one text at byte low =
     }
 
 -- one piece behind another
-pub put-then : {first second third : List ℕ} {at middle end : ℕ} {xs ys : List ℕ} → Put first second at xs middle → Put second third middle ys end → Put first third at (xs ++ ys) end
+pub put-then : {first second third : List ℕ} {at middle end : ℕ} {xs ys : List ℕ} → Put first second at xs middle
+    → Put second third middle ys end → Put first third at (xs ++ ys) end
 put-then {first} {second} {third} {at} {middle} {end} {xs} {ys} p q =
     record {
       end-is = omega (arith, p .end-is, q .end-is, length-append xs ys);
@@ -70,7 +71,8 @@ pub put-next : {entry middle exit : List ℕ} {at before end : ℕ} (bytes : Lis
 put-next bytes i low p q = put-same (rw (add-one i) (sym (take-suc bytes i 0 low))) (put-then p q)
 
 -- all of them are put
-pub put-all : {entry exit : List ℕ} {at end : ℕ} (bytes : List ℕ) (i : ℕ) → length bytes ≤ i → Put entry exit at (take i bytes) end → Put entry exit at bytes end
+pub put-all : {entry exit : List ℕ} {at end : ℕ} (bytes : List ℕ) (i : ℕ) → length bytes ≤ i
+    → Put entry exit at (take i bytes) end → Put entry exit at bytes end
 put-all bytes i past p = put-same (take-all i bytes past) p
 
 -- a number has at most 20 digits, and then the byte that ends it

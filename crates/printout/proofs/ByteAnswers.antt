@@ -40,14 +40,17 @@ put-answer p e =
     record { line-is = put-same (ap (λ (x : Told). x .line) e) p; more-is = ap (λ (x : Told). x .more) e; run-is = ap (λ (x : Told). x .run) e }
 
 module _ (c : Cell) (r : Recipe) (table : List ℕ) (run : Run) (byte : ℕ) where
-  no-digit : (text : List ℕ) (at : ℕ) → at ≤ length text → isDigit byte ≡ false → Answered (told c r table run byte) text text at (record { length = at; more = false; run = run })
+  no-digit : (text : List ℕ) (at : ℕ) → at ≤ length text → isDigit byte ≡ false
+      → Answered (told c r table run byte) text text at (record { length = at; more = false; run = run })
   unfolding told
   no-digit text at fits e = rw e (record { line-is = put-nothing text at fits; more-is = refl; run-is = refl })
 
-  pub byte-below : (text : List ℕ) (at : ℕ) → at ≤ length text → byte < 48 → Answered (told c r table run byte) text text at (record { length = at; more = false; run = run })
+  pub byte-below : (text : List ℕ) (at : ℕ) → at ≤ length text → byte < 48
+      → Answered (told c r table run byte) text text at (record { length = at; more = false; run = run })
   byte-below text at fits low = no-digit text at fits (below-digits byte low)
 
-  pub byte-above : (text : List ℕ) (at : ℕ) → at ≤ length text → 48 ≤ byte → 57 < byte → Answered (told c r table run byte) text text at (record { length = at; more = false; run = run })
+  pub byte-above : (text : List ℕ) (at : ℕ) → at ≤ length text → 48 ≤ byte → 57 < byte
+      → Answered (told c r table run byte) text text at (record { length = at; more = false; run = run })
   byte-above text at fits high past = no-digit text at fits (above-digits byte high past)
 
   module _ (high : 48 ≤ byte) (low : byte ≤ 57) (report : Report) (is : report ≡ reportOf c r table run (byte - 48)) where
@@ -58,7 +61,8 @@ module _ (c : Cell) (r : Recipe) (table : List ℕ) (run : Run) (byte : ℕ) whe
         rw (a-digit byte high low)
         (λ i. reported c r (nextMove c r table run .entry) run ((sym e ∙ ap (λ (x : Report). x .verdict) is) i) (is i .run))
 
-    pub report-made : {entry exit : List ℕ} {at here there end : ℕ} (move : ℕ) → report .verdict ≡ Accepted → here ≡ positionIn c r run → move ≡ nextMove c r table run .entry
+    pub report-made : {entry exit : List ℕ} {at here there end : ℕ} (move : ℕ) → report .verdict ≡ Accepted
+        → here ≡ positionIn c r run → move ≡ nextMove c r table run .entry
         → there ≡ positionIn c r (report .run)
         → Put entry exit at (moveLine here move there) end
         → Answered (told c r table run byte) entry exit at (record { length = end; more = true; run = report .run })
@@ -67,7 +71,8 @@ module _ (c : Cell) (r : Recipe) (table : List ℕ) (run : Run) (byte : ℕ) whe
         put-answer p
         ((λ i. record { line = moveLine (at-here i) (is-move i) (at-there i); more = true; run = report .run }) ∙ by-verdict Accepted e)
 
-    pub report-refused : {entry exit : List ℕ} {at end number : ℕ} {refusal : Refusal} {line : ℕ} → report .verdict ≡ Refused refusal line → number ≡ numberOf refusal
+    pub report-refused : {entry exit : List ℕ} {at end number : ℕ} {refusal : Refusal} {line : ℕ}
+        → report .verdict ≡ Refused refusal line → number ≡ numberOf refusal
         → Put entry exit at (refusalLine number) end
         → Answered (told c r table run byte) entry exit at (record { length = end; more = false; run = report .run })
     unfolding reported

@@ -27,9 +27,13 @@ module _ (c : Cell) (r : Recipe) (table : List ℕ) where
       stopped : Walk
       stopped = record { more = false; run = told c r table run x .run }
 
-      go : (b : Bool) → walked c r table next (xs ++ ys) ≡ cond (walked c r table next xs .more) (walked c r table (walked c r table next xs .run) ys) (walked c r table next xs)
+      go : (b : Bool)
+          → walked c r table next (xs ++ ys) ≡ cond (walked c r table next xs .more)
+          (walked c r table (walked c r table next xs .run) ys) (walked c r table next xs)
           → cond b (walked c r table next (xs ++ ys)) stopped
-          ≡ cond (cond b (walked c r table next xs) stopped .more) (walked c r table (cond b (walked c r table next xs) stopped .run) ys) (cond b (walked c r table next xs) stopped)
+          ≡ cond (cond b (walked c r table next xs) stopped .more)
+          (walked c r table (cond b (walked c r table next xs) stopped .run) ys)
+          (cond b (walked c r table next xs) stopped)
       go true h = h
       go false h = refl
 
@@ -45,18 +49,23 @@ module _ (c : Cell) (r : Recipe) (table : List ℕ) where
       stopped : Walk
       stopped = record { more = false; run = told c r table run x .run }
 
-      go : (b : Bool) → printed c r table next (xs ++ ys) ≡ printed c r table next xs ++ cond (walked c r table next xs .more) (printed c r table (walked c r table next xs .run) ys) []
+      go : (b : Bool) → printed c r table next (xs ++ ys) ≡ printed c r table next xs
+          ++ cond (walked c r table next xs .more) (printed c r table (walked c r table next xs .run) ys) []
           → told c r table run x .line ++ cond b (printed c r table next (xs ++ ys)) []
           ≡ (told c r table run x .line ++ cond b (printed c r table next xs) [])
           ++ cond (cond b (walked c r table next xs) stopped .more) (printed c r table (cond b (walked c r table next xs) stopped .run) ys) []
       go true h =
           ap (λ (l : List ℕ). told c r table run x .line ++ l) h
-          ∙ sym (append-assoc (told c r table run x .line) (printed c r table next xs) (cond (walked c r table next xs .more) (printed c r table (walked c r table next xs .run) ys) []))
+          ∙ sym
+          (append-assoc (told c r table run x .line) (printed c r table next xs)
+          (cond (walked c r table next xs .more) (printed c r table (walked c r table next xs .run) ys) []))
       go false h = sym (append-nil (told c r table run x .line ++ []))
 
   -- where the walk has ended, more input changes nothing
   rest-idle : (run : Run) (xs ys : List ℕ) → walked c r table run xs .more ≡ false → walked c r table run (xs ++ ys) ≡ walked c r table run xs
-  rest-idle run xs ys stopped = walked-parts run xs ys ∙ ap (λ (b : Bool). cond b (walked c r table (walked c r table run xs .run) ys) (walked c r table run xs)) stopped
+  rest-idle run xs ys stopped =
+      walked-parts run xs ys
+      ∙ ap (λ (b : Bool). cond b (walked c r table (walked c r table run xs .run) ys) (walked c r table run xs)) stopped
 
   rest-silent : (run : Run) (xs ys : List ℕ) → walked c r table run xs .more ≡ false → printed c r table run (xs ++ ys) ≡ printed c r table run xs
   rest-silent run xs ys stopped =
@@ -92,13 +101,18 @@ module _ (c : Cell) (r : Recipe) (table : List ℕ) where
       unfolding walked
       walked-one = rw (one, walked-parts run (take i bytes) (getD bytes i 0 ∷ []), going) (by-more (after .more))
         where
-          by-more : (b : Bool) → _≡_ {A = Walk} (cond b (record { more = true; run = after .run }) (record { more = false; run = after .run })) (record { more = b; run = after .run })
+          by-more : (b : Bool)
+              → _≡_ {A = Walk}
+              (cond b (record { more = true; run = after .run }) (record { more = false; run = after .run }))
+              (record { more = b; run = after .run })
           by-more true = refl
           by-more false = refl
 
       printed-one : printed c r table run (take (i + 1) bytes) ≡ printed c r table run (take i bytes) ++ after .line
       unfolding printed
-      printed-one = rw (one, printed-parts run (take i bytes) (getD bytes i 0 ∷ []), going) (ap (λ (l : List ℕ). printed c r table run (take i bytes) ++ l) (by-more (after .more)))
+      printed-one =
+          rw (one, printed-parts run (take i bytes) (getD bytes i 0 ∷ []), going)
+          (ap (λ (l : List ℕ). printed c r table run (take i bytes) ++ l) (by-more (after .more)))
         where
           by-more : (b : Bool) → after .line ++ cond b [] [] ≡ after .line
           by-more true = append-nil (after .line)
@@ -127,11 +141,20 @@ module _ (c : Cell) (r : Recipe) (table : List ℕ) where
           let parts : take (i + 1) bytes ++ drop (i + 1) bytes ≡ bytes = take-append-drop (i + 1) bytes in
           record {
             inside = answers-next .inside;
-            lines-are = answers-next .lines-are ∙ sym (rest-silent run (take (i + 1) bytes) (drop (i + 1) bytes) stopped) ∙ ap (λ (l : List ℕ). printed c r table run l) parts;
-            more-is = answers-next .more-is ∙ (λ j. sym (rest-idle run (take (i + 1) bytes) (drop (i + 1) bytes) stopped) j .more) ∙ ap (λ (l : List ℕ). walked c r table run l .more) parts;
-            run-is = answers-next .run-is ∙ (λ j. sym (rest-idle run (take (i + 1) bytes) (drop (i + 1) bytes) stopped) j .run) ∙ ap (λ (l : List ℕ). walked c r table run l .run) parts;
+            lines-are =
+                answers-next .lines-are ∙ sym (rest-silent run (take (i + 1) bytes) (drop (i + 1) bytes) stopped)
+                ∙ ap (λ (l : List ℕ). printed c r table run l) parts;
+            more-is =
+                answers-next .more-is
+                ∙ (λ j. sym (rest-idle run (take (i + 1) bytes) (drop (i + 1) bytes) stopped) j .more)
+                ∙ ap (λ (l : List ℕ). walked c r table run l .more) parts;
+            run-is =
+                answers-next .run-is
+                ∙ (λ j. sym (rest-idle run (take (i + 1) bytes) (drop (i + 1) bytes) stopped) j .run)
+                ∙ ap (λ (l : List ℕ). walked c r table run l .run) parts;
           }
 
   -- and to all of them
-  pub answers-all : {text : List ℕ} {all : Answer} (run : Run) (bytes : List ℕ) (i : ℕ) → length bytes ≤ i → Answers c r table run (take i bytes) text all → Answers c r table run bytes text all
+  pub answers-all : {text : List ℕ} {all : Answer} (run : Run) (bytes : List ℕ) (i : ℕ) → length bytes ≤ i
+      → Answers c r table run (take i bytes) text all → Answers c r table run bytes text all
   answers-all {text} {all} run bytes i past answers = subst (λ (l : List ℕ). Answers c r table run l text all) (take-all i bytes past) answers

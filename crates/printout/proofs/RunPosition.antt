@@ -10,7 +10,7 @@ use Rattle.refusals.specs.declared.Refusal.{Refusal}
 use Rattle.refusals.specs.declared.Refusal.the-variants.{RunRange}
 use Rattle.refusals.specs.declared.Verdict.{Verdict}
 use Rattle.refusals.specs.declared.Verdict.the-variants.{Accepted, Refused}
-use Rattle.refusals.specs.Verdict.{firstRefusal, noLine}
+use Rattle.refusals.specs.Verdict.{firstRefusal, noLine, ifAccepted}
 use Rattle.refusals.proofs.Verdicts.{noLine-accepts}
 use Rattle.refusals.proofs.Rules.{first-accepts, rest-accepts, left-accepts, right-accepts}
 use Rattle.cell.specs.declared.Cell.{Cell}
@@ -21,7 +21,7 @@ use Rattle.positions.specs.Rules.{recordRules, checkRecords, isPosition, rule16
 use Rattle.steps.specs.Effect.{opens}
 use Rattle.steps.proofs.MovesStayInRange.{stays}
 use Rattle.run.specs.declared.Run.{Run}
-use Rattle.run.specs.Calls.{entryAt, tableRules, entryRules, reportRules, rule17, rule18, rule19, nextRun, reportAnswer, reportOf}
+use Rattle.run.specs.Calls.{tableRules, entryAt, entryRules, reportRules, rule17, rule18, rule19, nextRun, reportOf}
 use Rattle.run.proofs.AcceptedRun.{Judged, table-judged}
 use Rattle.printout.specs.Turn.{numbered, positionIn}
 
@@ -41,18 +41,17 @@ module _ (c : Cell) (r : Recipe) (run : Run) (v : Verdict) (judged : v ≡ check
   unfolding numbered firstRefusal noLine
   no-position e f = by-rules Accepted false e f
 
-  pub at-position : v ≡ Accepted → isPosition (sizesOf c r) (run .point) (run .configuration) ≡ true → positionOf (sizesOf c r) (run .point) (run .configuration) ≡ positionIn c r run
+  pub at-position : v ≡ Accepted → isPosition (sizesOf c r) (run .point) (run .configuration) ≡ true
+      → positionOf (sizesOf c r) (run .point) (run .configuration) ≡ positionIn c r run
   unfolding numbered firstRefusal noLine
   at-position e f = by-rules Accepted true e f
 
 -- what a report that is accepted shows of both numbers: they are those of the run's position and of the next run's
-module _ (c : Cell) (r : Recipe) (table : List ℕ) (run : Run) (outcome : ℕ) (six : length (run .configuration .state) ≡ 6) (eight : length (run .configuration .place) ≡ 8) where
-  verdict-in : (w : Verdict) → reportAnswer w run (nextRun c r table run outcome) .verdict ≡ w
-  unfolding reportAnswer
-  verdict-in Accepted = refl
-  verdict-in (Refused refusal line) = refl
-
-  numbered-here : (at : Run) → checkRecords c r ≡ Accepted → isPosition (sizesOf c r) (at .point) (at .configuration) ≡ true → positionIn c r at ≡ positionOf (sizesOf c r) (at .point) (at .configuration)
+module _ (c : Cell) (r : Recipe) (table : List ℕ) (run : Run) (outcome : ℕ)
+    (six : length (run .configuration .state) ≡ 6) (eight : length (run .configuration .place) ≡ 8) where
+  numbered-here : (at : Run) → checkRecords c r ≡ Accepted
+      → isPosition (sizesOf c r) (at .point) (at .configuration) ≡ true
+      → positionIn c r at ≡ positionOf (sizesOf c r) (at .point) (at .configuration)
   numbered-here at passed good = sym (at-position c r at (checkRecords c r) refl passed good)
 
   module _ (accepted : reportOf c r table run outcome .verdict ≡ Accepted) where
@@ -61,13 +60,13 @@ module _ (c : Cell) (r : Recipe) (table : List ℕ) (run : Run) (outcome : ℕ) 
 
     rules : firstRefusal (entryRules c r table run ++ lastRules) ≡ Accepted
     unfolding reportOf reportRules
-    rules = sym (verdict-in _) ∙ accepted
+    rules = accepted
 
     entry-rules : firstRefusal (entryRules c r table run) ≡ Accepted
     entry-rules = left-accepts (entryRules c r table run) lastRules rules
 
     passed : checkRecords c r ≡ Accepted
-    unfolding checkRecords entryRules
+    unfolding checkRecords entryRules tableRules
     passed = left-accepts (recordRules c r) (tableRules (sizesOf c r) (length table) run) entry-rules
 
     judged : Judged c r run
@@ -78,14 +77,18 @@ module _ (c : Cell) (r : Recipe) (table : List ℕ) (run : Run) (outcome : ℕ) 
     opened = not-false _ (noLine-accepts _ _ (first-accepts _ _ (rest-accepts _ _ (right-accepts (entryRules c r table run) lastRules rules))))
 
     next-is : nextRun c r table run outcome ≡ reportOf c r table run outcome .run
-    unfolding reportOf reportRules reportAnswer
-    next-is = ap (λ (w : Verdict). reportAnswer w run (nextRun c r table run outcome) .run) (sym rules)
+    unfolding reportOf reportRules ifAccepted
+    next-is = ap (λ (w : Verdict). ifAccepted w (nextRun c r table run outcome) run) (sym rules)
 
     pub position-is : positionIn c r run ≡ positionOf (sizesOf c r) (run .point) (run .configuration)
     position-is = numbered-here run passed (judged .position)
 
-    pub next-position-is : (next : Run) → next ≡ reportOf c r table run outcome .run → positionIn c r next ≡ positionOf (sizesOf c r) (next .point) (next .configuration)
+    pub next-position-is : (next : Run) → next ≡ reportOf c r table run outcome .run
+        → positionIn c r next ≡ positionOf (sizesOf c r) (next .point) (next .configuration)
     unfolding nextRun
     next-position-is next is =
-        let there = stays c r (judged .checked .cell-passes) (judged .checked .recipe-passes) (partsOf r) (omega arith) (run .point) (run .configuration) (entryAt c r table run) (judged .position) six eight opened outcome in
-        subst (λ (at : Run). positionIn c r at ≡ positionOf (sizesOf c r) (at .point) (at .configuration)) (next-is ∙ sym is) (numbered-here (nextRun c r table run outcome) passed (there .position))
+        let there =
+        stays c r (judged .checked .cell-passes) (judged .checked .recipe-passes) (partsOf r) (omega arith)
+        (run .point) (run .configuration) (entryAt c r table run) (judged .position) six eight opened outcome in
+        subst (λ (at : Run). positionIn c r at ≡ positionOf (sizesOf c r) (at .point) (at .configuration))
+        (next-is ∙ sym is) (numbered-here (nextRun c r table run outcome) passed (there .position))

@@ -9,13 +9,14 @@ use lib.ListN.{length, getD}
 use borrow.Author.Tests.{leb-true, not-false}
 use Rattle.refusals.specs.declared.Verdict.{Verdict}
 use Rattle.refusals.specs.declared.Verdict.the-variants.{Accepted, Refused}
-use Rattle.refusals.specs.Verdict.{rule3}
+use Rattle.refusals.specs.Verdict.{rule3, ifAccepted}
 use Rattle.refusals.proofs.Verdicts.{and-left, and-right, none-breaks, count-in-range}
 use Rattle.refusals.proofs.Rules.{first-accepts, rest-accepts}
 use Rattle.tables.specs.Lines.{valueLines}
 use Rattle.recipe.specs.declared.Recipe.{Recipe}
-use Rattle.recipe.specs.Reader.{recipeOf, judgeRecipe, reading, readRecipe}
-use Rattle.recipe.specs.Rules.{inRange, leavesRange, rule4, rule7, rule8, rule9, rule10, rule11, rule12, afterRange, recipeRules, checkRecipe}
+use Rattle.recipe.specs.Reader.{recipeOf, judgeRecipe, readRecipe}
+use Rattle.recipe.specs.Steps.{reading}
+use Rattle.recipe.specs.Rules.{inRange, leavesRange, rule4, rule7, rule8, rule9, rule10, rule11, rule12, recipeRules, checkRecipe}
 
 -- what rule 4 leaves of the numbers of line n
 pub record LineInRange (r : Recipe) (n : ℕ) : Type 0 where
@@ -30,7 +31,9 @@ pub record LineInRange (r : Recipe) (n : ℕ) : Type 0 where
 pub line-in-range : (r : Recipe) → rule4 r ≡ Accepted → (n : ℕ) → n < r .count → LineInRange r n
 unfolding rule4 leavesRange inRange
 line-in-range r e n low =
-    let all : inRange (getD (r .point) n 0) (getD (r .kind) n 0) (getD (r .op) n 0) (getD (r .takes) n 0) (getD (r .gives) n 0) (getD (r .then) n 0) (getD (r .otherwise) n 0) ≡ true = not-false _ (none-breaks _ _ _ e n low) in
+    let all : inRange (getD (r .point) n 0) (getD (r .kind) n 0) (getD (r .op) n 0) (getD (r .takes) n 0)
+    (getD (r .gives) n 0) (getD (r .then) n 0) (getD (r .otherwise) n 0) ≡ true =
+    not-false _ (none-breaks _ _ _ e n low) in
     record {
       point = leb-true _ _ (search and-left);
       kind = leb-true _ _ (search (and-left, and-right));
@@ -53,7 +56,7 @@ pub record EachAccepts (r : Recipe) : Type 0 where
   pub twelfth : rule12 r ≡ Accepted
 
 pub each-accepts : (r : Recipe) → checkRecipe r ≡ Accepted → EachAccepts r
-unfolding checkRecipe recipeRules afterRange
+unfolding checkRecipe recipeRules
 each-accepts r e =
     let from4 = rest-accepts _ _ e in
     let from7 = rest-accepts _ _ from4 in
@@ -74,7 +77,7 @@ each-accepts r e =
 
 -- a reader's record has at most 64 lines, refused or not
 pub read-few : (file : List ℕ) → readRecipe file .recipe .count ≤ 64
-unfolding readRecipe judgeRecipe reading recipeOf checkRecipe
+unfolding readRecipe judgeRecipe reading ifAccepted recipeOf checkRecipe
 read-few file = judge (judgeRecipe file) refl
   where
     judge : (v : Verdict) → judgeRecipe file ≡ v → reading v (recipeOf file) .recipe .count ≤ 64

@@ -11,13 +11,14 @@ use native.Mathlib.Omega.{arith}
 use lib.ListN.{getD}
 use lib.Dec.{eqb, leb}
 use borrow.Author.Tests.{eq-eqb, ne-eqb, eqb-true, le-leb, lt-leb, leb-true, leb-false, not-false}
-use Rattle.refusals.specs.Search.{firstBelow, anyBelow, countBelow}
+use Rattle.refusals.specs.Search.{firstBelow, anyBelow, countBelow, isOf}
 use Rattle.refusals.proofs.Scan.{any-hit, first-none}
 use Rattle.refusals.specs.declared.Refusal.the-variants.{PointOrder}
 use Rattle.refusals.specs.declared.Verdict.the-variants.{Accepted}
 use Rattle.refusals.proofs.Verdicts.{none-breaks}
 use Rattle.recipe.specs.declared.Recipe.{Recipe}
-use Rattle.recipe.specs.Rules.{breaksOrder, rule7, samePoint, clashes, opensPoint, pointCount, common, sharesPart}
+use Rattle.recipe.specs.Rules.{breaksOrder, rule7, clashes, pointCount, common, sharesPart}
+use Rattle.recipe.specs.Steps.{samePoint}
 
 -- what rule 7 asks of a line that another comes before
 pub order-next :
@@ -67,7 +68,8 @@ rest-counts f m zero low none all = omega arith
 rest-counts f m (suc n) low none all =
     ⊎-elim
     (λ e. subst (λ (x : ℕ). m + countBelow f x ≡ x) e (omega (arith, none-counts f m none)))
-    (λ lt. rw (all n (le-of-suc-le-suc lt) (omega arith)) (omega (arith, rest-counts f m n (le-of-suc-le-suc lt) none (λ k least most. all k least (omega arith)))))
+    (λ lt. rw (all n (le-of-suc-le-suc lt) (omega arith))
+    (omega (arith, rest-counts f m n (le-of-suc-le-suc lt) none (λ k least most. all k least (omega arith)))))
     (eq-or-lt-of-le low)
 
 -- where rule 7 accepts, the search for a line that breaks it finds none
@@ -96,19 +98,26 @@ module _ (point : List ℕ) (count : ℕ) (ordered : firstBelow (breaksOrder poi
       on : {a b c : ℕ} → a ≤ b → Next b c → a ≤ c
       on {a} {b} {c} h s = ⊎-elim (λ (e : c ≡ b). omega arith) (λ (e : c ≡ b + 1). omega arith) s
 
+  abbrev opensPoint : ℕ → Bool
+  opensPoint n = not (anyBelow (samePoint point n) n)
+
   -- a line that has its predecessor's point opens none, and one that has the next point opens it
-  same : (n : ℕ) → getD point (suc n) 0 ≡ getD point n 0 → opensPoint point (suc n) ≡ false
-  unfolding opensPoint samePoint
+  same : (n : ℕ) → getD point (suc n) 0 ≡ getD point n 0 → opensPoint (suc n) ≡ false
+  unfolding isOf
   same n e = rw (any-hit (samePoint point (suc n)) n (suc n) (omega arith) (eq-eqb _ _ (sym e)))
 
-  more : (n : ℕ) → suc n < count → getD point (suc n) 0 ≡ getD point n 0 + 1 → opensPoint point (suc n) ≡ true
-  unfolding opensPoint samePoint
+  more : (n : ℕ) → suc n < count → getD point (suc n) 0 ≡ getD point n 0 + 1 → opensPoint (suc n) ≡ true
+  unfolding isOf
   more n low e =
-      rw (none-below (samePoint point (suc n)) (suc n) (λ k lt. ne-eqb _ _ (λ (z : getD point k 0 ≡ getD point (suc n) 0). omega (arith, rises k n (le-of-suc-le-suc lt) (omega arith)))))
+      rw
+      (none-below (samePoint point (suc n)) (suc n)
+      (λ k lt. ne-eqb _ _
+      (λ (z : getD point k 0 ≡ getD point (suc n) 0). omega
+      (arith, rises k n (le-of-suc-le-suc lt) (omega arith)))))
 
   -- the lines up to line n have as many points as line n's number says, and one
   counted : (n : ℕ) → n < count → pointCount point (suc n) ≡ getD point n 0 + 1
-  unfolding pointCount opensPoint countBelow anyBelow
+  unfolding pointCount countBelow anyBelow
   counted zero low = omega (arith, starts low)
   counted (suc n) low =
       ⊎-elim
@@ -135,7 +144,7 @@ module _ (point : List ℕ) (count : ℕ) (ordered : firstBelow (breaksOrder poi
       → (k : ℕ)
       → k < n
       → samePoint point n k ≡ leb m k
-  unfolding samePoint
+  unfolding isOf
   same-from m n low high here other k lt = decide (leb m k) refl
     where
       decide : (b : Bool) → leb m k ≡ b → eqb (getD point k 0) (getD point n 0) ≡ b
@@ -143,7 +152,9 @@ module _ (point : List ℕ) (count : ℕ) (ordered : firstBelow (breaksOrder poi
           eq-eqb (getD point k 0) (getD point n 0) (omega (arith, rises m k (leb-true m k e) (omega arith), rises k n (omega arith) high))
       decide false e =
           let less : k < m = leb-false m k e in
-          ne-eqb (getD point k 0) (getD point n 0) (λ z. other (omega arith) (omega (arith, rises k (m - 1) (omega arith) (omega arith), rises (m - 1) n (omega arith) high)))
+          ne-eqb (getD point k 0) (getD point n 0)
+          (λ z. other (omega arith)
+          (omega (arith, rises k (m - 1) (omega arith) (omega arith), rises (m - 1) n (omega arith) high)))
 
 -- line n's point starts at line `start`: no line before it clashes or shares with line n
 module _ (point : List ℕ) (n start : ℕ) (low : start ≤ n) (from : (k : ℕ) → k < n → samePoint point n k ≡ leb start k) where

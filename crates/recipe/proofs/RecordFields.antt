@@ -9,7 +9,7 @@ use Rattle.refusals.specs.declared.Verdict.{Verdict}
 use Rattle.refusals.specs.declared.Verdict.the-variants.{Refused}
 use Rattle.refusals.specs.declared.Refusal.the-variants.{Range}
 use Rattle.refusals.specs.Search.{firstBelow}
-use Rattle.refusals.specs.Verdict.{firstRefusal}
+use Rattle.refusals.specs.Verdict.{firstRefusal, ifAccepted}
 use Rattle.refusals.proofs.Scan.{first-same, first-both}
 use Rattle.refusals.proofs.Verdicts.{broken, kept}
 use Rattle.tables.specs.declared.Column.{Column}
@@ -17,8 +17,9 @@ use Rattle.tables.specs.Lines.{valueLines}
 use Rattle.tables.specs.Table.{numberAt, column}
 use Rattle.tables.specs.Reading.{Kept, within, Ranged}
 use Rattle.tables.proofs.Columns.{within-most, column-at, OfFile, of-file, read-all}
-use Rattle.recipe.specs.Rules.{inRange, leavesRange, rule4}
-use Rattle.recipe.specs.Reader.{recipeOf, noRecipe, reading}
+use Rattle.recipe.specs.Rules.{leavesRange, rule4, inRange}
+use Rattle.recipe.specs.Reader.{recipeOf, noRecipe}
+use Rattle.recipe.specs.Steps.{reading}
 
 leaves : List ℕ → ℕ → Bool
 leaves f = leavesRange (column f 0) (column f 1) (column f 2) (column f 3) (column f 4) (column f 5) (column f 6)
@@ -52,23 +53,28 @@ module _
 
     R3 : OfFile f 3 0 255 (op .lines) takes
     R3 =
-        let low : op .lines ≤ count = omega (arith, R0 .fewer, R1 .fewer, R2 .fewer) in of-file f store K (op .lines) 3 0 255 takes low (omega arith) (omega arith) taken
+        let low : op .lines ≤ count = omega (arith, R0 .fewer, R1 .fewer, R2 .fewer) in
+        of-file f store K (op .lines) 3 0 255 takes low (omega arith) (omega arith) taken
 
     R4 : OfFile f 4 0 255 (takes .lines) gives
     R4 =
-        let low : takes .lines ≤ count = omega (arith, R0 .fewer, R1 .fewer, R2 .fewer, R3 .fewer) in of-file f store K (takes .lines) 4 0 255 gives low (omega arith) (omega arith) given
+        let low : takes .lines ≤ count = omega (arith, R0 .fewer, R1 .fewer, R2 .fewer, R3 .fewer) in
+        of-file f store K (takes .lines) 4 0 255 gives low (omega arith) (omega arith) given
 
     R5 : OfFile f 5 0 15 (gives .lines) then
     R5 =
-        let low : gives .lines ≤ count = omega (arith, R0 .fewer, R1 .fewer, R2 .fewer, R3 .fewer, R4 .fewer) in of-file f store K (gives .lines) 5 0 15 then low (omega arith) (omega arith) thens
+        let low : gives .lines ≤ count = omega (arith, R0 .fewer, R1 .fewer, R2 .fewer, R3 .fewer, R4 .fewer) in
+        of-file f store K (gives .lines) 5 0 15 then low (omega arith) (omega arith) thens
 
     R6 : OfFile f 6 0 15 (then .lines) otherwise
     R6 =
-        let low : then .lines ≤ count = omega (arith, R0 .fewer, R1 .fewer, R2 .fewer, R3 .fewer, R4 .fewer, R5 .fewer) in of-file f store K (then .lines) 6 0 15 otherwise low (omega arith) (omega arith) others
+        let low : then .lines ≤ count =
+        omega (arith, R0 .fewer, R1 .fewer, R2 .fewer, R3 .fewer, R4 .fewer, R5 .fewer) in
+        of-file f store K (then .lines) 6 0 15 otherwise low (omega arith) (omega arith) others
 
     -- together they end at the first line with a number that leaves its range
     found : otherwise .lines ≡ firstBelow (leaves f) (length (valueLines f))
-    unfolding leavesRange inRange leaves fits
+    unfolding leavesRange leaves fits inRange
     found =
         R6 .lines-are
         ∙ ap (firstBelow (λ i. not (fits f 6 15 i))) (R5 .lines-are)
@@ -81,12 +87,23 @@ module _
         ∙ first-both (fits f 2 63) (λ i. fits f 3 255 i && (fits f 4 255 i && (fits f 5 15 i && fits f 6 15 i))) (kind .lines)
         ∙ ap (firstBelow (λ i. not (fits f 2 63 i && (fits f 3 255 i && (fits f 4 255 i && (fits f 5 15 i && fits f 6 15 i)))))) (R1 .lines-are)
         ∙ first-both (fits f 1 2) (λ i. fits f 2 63 i && (fits f 3 255 i && (fits f 4 255 i && (fits f 5 15 i && fits f 6 15 i)))) (point .lines)
-        ∙ ap (firstBelow (λ i. not (fits f 1 2 i && (fits f 2 63 i && (fits f 3 255 i && (fits f 4 255 i && (fits f 5 15 i && fits f 6 15 i))))))) (R0 .lines-are)
+        ∙ ap
+        (firstBelow
+        (λ i. not
+        (fits f 1 2 i
+        && (fits f 2 63 i && (fits f 3 255 i && (fits f 4 255 i && (fits f 5 15 i && fits f 6 15 i)))))))
+        (R0 .lines-are)
         ∙ first-both (fits f 0 15) (λ i. fits f 1 2 i && (fits f 2 63 i && (fits f 3 255 i && (fits f 4 255 i && (fits f 5 15 i && fits f 6 15 i))))) count
         ∙ first-same _ (leaves f) count (λ i low. at i (omega arith))
         ∙ ap (firstBelow (leaves f)) all
       where
-        at : (i : ℕ) → i < 64 → not (fits f 0 15 i && (fits f 1 2 i && (fits f 2 63 i && (fits f 3 255 i && (fits f 4 255 i && (fits f 5 15 i && fits f 6 15 i)))))) ≡ leaves f i
+        at : (i : ℕ) → i < 64
+            → not
+            (fits f 0 15 i
+            &&
+            (fits f 1 2 i
+            && (fits f 2 63 i && (fits f 3 255 i && (fits f 4 255 i && (fits f 5 15 i && fits f 6 15 i)))))) ≡ leaves
+            f i
         at i low = rw (
           within-most 15 (numberAt f 0 i),
           within-most 2 (numberAt f 1 i),
@@ -105,13 +122,32 @@ module _
         )
 
     -- a number leaves its range
-    pub stored-out : (rest : List Verdict) → otherwise .lines < count → reading (Refused Range (otherwise .lines + 2)) noRecipe ≡ reading (firstRefusal (rule4 (recipeOf f) ∷ rest)) (recipeOf f)
-    unfolding reading rule4 recipeOf leaves
-    stored-out rest low = ap (λ (v : Verdict). reading v (recipeOf f)) (broken Range (leaves f) (length (valueLines f)) (otherwise .lines) found rest (omega arith))
+    pub stored-out : (rest : List Verdict) → otherwise .lines < count
+        → reading (Refused Range (otherwise .lines + 2)) noRecipe ≡ reading (firstRefusal (rule4 (recipeOf f) ∷ rest))
+        (recipeOf f)
+    unfolding reading ifAccepted rule4 recipeOf leaves
+    stored-out rest low =
+        ap (λ (v : Verdict). reading v (recipeOf f))
+        (broken Range (leaves f) (length (valueLines f)) (otherwise .lines) found rest (omega arith))
 
     -- all are in range: the record is the file's, and rule 4 leaves it to the others
     module _ (past : count ≤ otherwise .lines) where
-      pub stored-recipe : record { count = count; point = point .values; kind = kind .values; op = op .values; takes = takes .values; gives = gives .values; then = then .values; otherwise = otherwise .values } ≡ recipeOf f
+      pub stored-recipe : record {
+        count =
+            count;
+        point =
+            point .values;
+        kind =
+            kind .values;
+        op =
+            op .values;
+        takes =
+            takes .values;
+        gives = gives .values;
+        then = then .values;
+        otherwise = otherwise .values;
+      } ≡ recipeOf
+          f
       unfolding recipeOf
       stored-recipe =
           let most0 : point .lines ≤ count = omega (arith, R0 .fewer) in
@@ -120,7 +156,9 @@ module _
           let most3 : takes .lines ≤ count = omega (arith, R3 .fewer) in
           let most4 : gives .lines ≤ count = omega (arith, R4 .fewer) in
           let most5 : then .lines ≤ count = omega (arith, R5 .fewer) in
-          let e0 = read-all f 0 0 15 count count point R0 (omega arith) (omega (arith, R1 .fewer, R2 .fewer, R3 .fewer, R4 .fewer, R5 .fewer, R6 .fewer)) few all in
+          let e0 =
+          read-all f 0 0 15 count count point R0 (omega arith)
+          (omega (arith, R1 .fewer, R2 .fewer, R3 .fewer, R4 .fewer, R5 .fewer, R6 .fewer)) few all in
           let e1 = read-all f 1 0 2 (point .lines) count kind R1 most0 (omega (arith, R2 .fewer, R3 .fewer, R4 .fewer, R5 .fewer, R6 .fewer)) few all in
           let e2 = read-all f 2 0 63 (kind .lines) count op R2 most1 (omega (arith, R3 .fewer, R4 .fewer, R5 .fewer, R6 .fewer)) few all in
           let e3 = read-all f 3 0 255 (op .lines) count takes R3 most2 (omega (arith, R4 .fewer, R5 .fewer, R6 .fewer)) few all in

@@ -7,7 +7,7 @@ use lib.ListN.{getD}
 use lib.Dec.{eqb, leb}
 use Rattle.refusals.specs.declared.Verdict.{Verdict}
 use Rattle.refusals.specs.declared.Refusal.the-variants.{Range, PointOrder, RepeatedPoint, UnusedField, NoParts, CommonPart, TargetPoint}
-use Rattle.refusals.specs.Search.{anyBelow, countBelow}
+use Rattle.refusals.specs.Search.{anyBelow, countBelow, isOf}
 use Rattle.refusals.specs.Verdict.{firstRefusal, firstLine, rule3}
 use Rattle.recipe.specs.declared.Recipe.{Recipe}
 
@@ -36,18 +36,14 @@ breaksOrder point (suc n) = not (eqb (getD point (suc n) 0) (getD point n 0) || 
 unfoldable pub rule7 : Recipe → Verdict
 rule7 r = firstLine PointOrder (breaksOrder (r .point)) (r .count)
 
--- line k is of line n's point
-unfoldable pub samePoint : List ℕ → ℕ → ℕ → Bool
-samePoint point n k = eqb (getD point k 0) (getD point n 0)
-
 -- line k is of line n's point, and they aren't both kind 1 with one `then`
 unfoldable pub clashes : List ℕ → List ℕ → List ℕ → ℕ → ℕ → Bool
 clashes point kind then n k =
-    samePoint point n k && not (eqb (getD kind n 0) 1 && (eqb (getD kind k 0) 1 && eqb (getD then n 0) (getD then k 0)))
+    isOf point (getD point n 0) k && not (eqb (getD kind n 0) 1 && (eqb (getD kind k 0) 1 && eqb (getD then n 0) (getD then k 0)))
 
 -- line n clashes with an earlier line of its point, or four earlier lines are of its point
 unfoldable pub breaksRepeat : List ℕ → List ℕ → List ℕ → ℕ → Bool
-breaksRepeat point kind then n = anyBelow (clashes point kind then n) n || leb 4 (countBelow (samePoint point n) n)
+breaksRepeat point kind then n = anyBelow (clashes point kind then n) n || leb 4 (countBelow (isOf point (getD point n 0)) n)
 
 -- "8. Recipe: a repeated point isn't kind 1 on both lines, differs in `then`, or comes a fifth time."
 unfoldable pub rule8 : Recipe → Verdict
@@ -72,13 +68,9 @@ rule9 r = firstLine UnusedField (breaksUnused (r .kind) (r .op) (r .takes) (r .g
 unfoldable pub lacksParts : ℕ → ℕ → ℕ → Bool
 lacksParts kind takes gives = cond (eqb kind 1) (eqb takes 0 && eqb gives 0) (cond (eqb kind 2) (eqb takes 0) false)
 
--- line n is a test that takes 0, or a do that takes and gives 0
-unfoldable pub breaksParts : List ℕ → List ℕ → List ℕ → ℕ → Bool
-breaksParts kind takes gives n = lacksParts (getD kind n 0) (getD takes n 0) (getD gives n 0)
-
 -- "10. Recipe: a test takes 0, or a do takes and gives 0."
 unfoldable pub rule10 : Recipe → Verdict
-rule10 r = firstLine NoParts (breaksParts (r .kind) (r .takes) (r .gives)) (r .count)
+rule10 r = firstLine NoParts (λ n. lacksParts (getD (r .kind) n 0) (getD (r .takes) n 0) (getD (r .gives) n 0)) (r .count)
 
 -- "sums in which part n counts 2^n": the part is in the sum
 unfoldable pub holdsPart : ℕ → ℕ → Bool
@@ -91,44 +83,29 @@ common a b = anyBelow (λ part. holdsPart a part && holdsPart b part) 8
 -- lines n and k are of one point, and both take, or both give, a common part
 unfoldable pub sharesPart : List ℕ → List ℕ → List ℕ → ℕ → ℕ → Bool
 sharesPart point takes gives n k =
-    samePoint point n k && (common (getD takes n 0) (getD takes k 0) || common (getD gives n 0) (getD gives k 0))
+    isOf point (getD point n 0) k && (common (getD takes n 0) (getD takes k 0) || common (getD gives n 0) (getD gives k 0))
 
--- line n shares a part with an earlier line: "for a pair, the later line"
-unfoldable pub breaksCommon : List ℕ → List ℕ → List ℕ → ℕ → Bool
-breaksCommon point takes gives n = anyBelow (sharesPart point takes gives n) n
-
--- "11. Recipe: two lines of a point take, or give, a common part."
+-- "11. Recipe: two lines of a point take, or give, a common part.", and "for a pair, the later line"
 unfoldable pub rule11 : Recipe → Verdict
-rule11 r = firstLine CommonPart (breaksCommon (r .point) (r .takes) (r .gives)) (r .count)
+rule11 r = firstLine CommonPart (λ n. anyBelow (sharesPart (r .point) (r .takes) (r .gives) n) n) (r .count)
 
--- line n is the first of its point
-unfoldable pub opensPoint : List ℕ → ℕ → Bool
-opensPoint point n = not (anyBelow (samePoint point n) n)
-
--- "N is the number of points."
+-- "N is the number of points.": how many lines are the first of their point
 unfoldable pub pointCount : List ℕ → ℕ → ℕ
-pointCount point count = countBelow (opensPoint point) count
+pointCount point count = countBelow (λ n. not (anyBelow (isOf point (getD point n 0)) n)) count
 
 -- "a do's `then` or a test's `then` or `else` is N or more"
 unfoldable pub leadsOut : ℕ → ℕ → ℕ → ℕ → Bool
 leadsOut points kind then otherwise = cond (eqb kind 1) (leb points then) (cond (eqb kind 2) (leb points then || leb points otherwise) false)
 
--- line n leads to a point that isn't one of the `points`
-unfoldable pub breaksTarget : ℕ → List ℕ → List ℕ → List ℕ → ℕ → Bool
-breaksTarget points kind then otherwise n = leadsOut points (getD kind n 0) (getD then n 0) (getD otherwise n 0)
-
 -- "12. Recipe: a do's `then` or a test's `then` or `else` is N or more."
 unfoldable pub rule12 : Recipe → Verdict
 rule12 r =
-    firstLine TargetPoint (breaksTarget (pointCount (r .point) (r .count)) (r .kind) (r .then) (r .otherwise)) (r .count)
-
--- what is tried of a recipe whose numbers are in range, in order
-unfoldable pub afterRange : Recipe → List Verdict
-afterRange r = rule7 r ∷ rule8 r ∷ rule9 r ∷ rule10 r ∷ rule11 r ∷ rule12 r ∷ []
+    let N = pointCount (r .point) (r .count) in
+    firstLine TargetPoint (λ n. leadsOut N (getD (r .kind) n 0) (getD (r .then) n 0) (getD (r .otherwise) n 0)) (r .count)
 
 -- "check handed-in values anew from rule 3": a recipe record's rules, in order
 unfoldable pub recipeRules : Recipe → List Verdict
-recipeRules r = rule3 (r .count) ∷ rule4 r ∷ afterRange r
+recipeRules r = rule3 (r .count) ∷ rule4 r ∷ rule7 r ∷ rule8 r ∷ rule9 r ∷ rule10 r ∷ rule11 r ∷ rule12 r ∷ []
 
 unfoldable pub checkRecipe : Recipe → Verdict
 checkRecipe r = firstRefusal (recipeRules r)

@@ -106,9 +106,14 @@ count-more f g zero k low before now same = absurd (not-suc-le-zero low)
 count-more f g (suc n) k low before now same =
     ⊎-elim
     (λ (e : k ≡ n).
-    rw (subst (λ (m : ℕ). f m ≡ false) e before, subst (λ (m : ℕ). g m ≡ true) e now, count-same f g n (λ (i : ℕ) (lt : i < n). same i (omega arith) (λ (z : i ≡ k). omega arith))))
+    rw (
+      subst (λ (m : ℕ). f m ≡ false) e before,
+      subst (λ (m : ℕ). g m ≡ true) e now,
+      count-same f g n (λ (i : ℕ) (lt : i < n). same i (omega arith) (λ (z : i ≡ k). omega arith)),
+    ))
     (λ (lt : k < n).
-    more (f n) (g n) (same n (omega arith) (λ (z : n ≡ k). omega arith)) (count-more f g n k lt before now (λ (i : ℕ) (less : i < n) (ne : i ≡ k → ⊥). same i (omega arith) ne)))
+    more (f n) (g n) (same n (omega arith) (λ (z : n ≡ k). omega arith))
+    (count-more f g n k lt before now (λ (i : ℕ) (less : i < n) (ne : i ≡ k → ⊥). same i (omega arith) ne)))
     (eq-or-lt-of-le (le-of-suc-le-suc low))
   where
     more :
@@ -129,6 +134,11 @@ pub count-many :
 count-many f g n zero low pass differ = omega arith
 count-many f g n (suc m) low pass differ =
     let others : ℕ → Bool = λ i. f i && not (eqb i (g m)) in
-    let rest : m ≤ countBelow others n = count-many others g n m (λ j less. low j (omega arith)) (λ j less. rw (pass j (omega arith), ne-eqb (g j) (g m) (differ j m less (omega arith)))) (λ i j less most. differ i j less (omega arith)) in
-    let one : countBelow f n ≡ suc (countBelow others n) = count-more others f n (g m) (low m (omega arith)) (rw (pass m (omega arith), eq-eqb (g m) (g m) refl)) (pass m (omega arith)) (λ i less ne. rw (ne-eqb i (g m) ne) (and-true (f i))) in
+    let rest : m ≤ countBelow others n =
+    count-many others g n m (λ j less. low j (omega arith))
+    (λ j less. rw (pass j (omega arith), ne-eqb (g j) (g m) (differ j m less (omega arith))))
+    (λ i j less most. differ i j less (omega arith)) in
+    let one : countBelow f n ≡ suc (countBelow others n) =
+    count-more others f n (g m) (low m (omega arith)) (rw (pass m (omega arith), eq-eqb (g m) (g m) refl))
+    (pass m (omega arith)) (λ i less ne. rw (ne-eqb i (g m) ne) (and-true (f i))) in
     omega arith

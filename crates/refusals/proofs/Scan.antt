@@ -115,9 +115,12 @@ first-both f g (suc n) = go (eqb (fails n) n) refl (f n) refl (first-both f g n)
     stays false e = rw e
 
     go : (b : Bool) → eqb (fails n) n ≡ b → (c : Bool) → f n ≡ c → firstBelow (λ i. not (g i)) (fails n) ≡ both
-        → firstBelow (λ i. not (g i)) (cond (eqb (fails n) n) (cond (not (f n)) n (suc n)) (fails n)) ≡ cond (eqb both n) (cond (not (f n && g n)) n (suc n)) both
+        → firstBelow (λ i. not (g i)) (cond (eqb (fails n) n) (cond (not (f n)) n (suc n)) (fails n)) ≡ cond
+        (eqb both n) (cond (not (f n && g n)) n (suc n)) both
     go true e true w found =
-        let here : firstBelow (λ i. not (g i)) n ≡ both = subst (λ (m : ℕ). firstBelow (λ i. not (g i)) m ≡ both) (eqb-true (fails n) n e) found in rw (e, w, here)
+        let here : firstBelow (λ i. not (g i)) n ≡ both =
+        subst (λ (m : ℕ). firstBelow (λ i. not (g i)) m ≡ both) (eqb-true (fails n) n e) found in
+        rw (e, w, here)
     go true e false w found =
         let here : firstBelow (λ i. not (g i)) n ≡ both = subst (λ (m : ℕ). firstBelow (λ i. not (g i)) m ≡ both) (eqb-true (fails n) n e) found in
         rw (e, w) (here ∙ stays (eqb both n) refl)

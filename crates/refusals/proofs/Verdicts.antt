@@ -7,7 +7,11 @@ use native.Mathlib.Omega.{arith}
 use lib.Dec.{eqb, ltb}
 use borrow.Author.Tests.{eqb-false, lt-ltb, le-ltb, ltb-false}
 use Rattle.refusals.specs.declared.Refusal.{Refusal}
-use Rattle.refusals.specs.declared.Refusal.the-variants.{Names, Form, LineCount, Range, ResourceGap, NoPartner, PointOrder, RepeatedPoint, UnusedField, NoParts, CommonPart, TargetPoint, TooManyPositions, TooShort, NotRealisable, RunRange, OutcomeRange, NotOpen, AtEnd, LimitResource, FullCell, UnreachedPoint, RejectLine, Chapters, RunNumber}
+use Rattle.refusals.specs.declared.Refusal.the-variants.{Names, Form, LineCount, Range, ResourceGap, NoPartner, PointOrder}
+use Rattle.refusals.specs.declared.Refusal.the-variants.{RepeatedPoint, UnusedField, NoParts, CommonPart, TargetPoint}
+use Rattle.refusals.specs.declared.Refusal.the-variants.{TooManyPositions, TooShort, NotRealisable, RunRange, OutcomeRange, NotOpen}
+use Rattle.refusals.specs.declared.Refusal.the-variants.{AtEnd, LimitResource, FullCell, UnreachedPoint, RejectLine, Chapters}
+use Rattle.refusals.specs.declared.Refusal.the-variants.{RunNumber}
 use Rattle.refusals.specs.declared.Verdict.{Verdict}
 use Rattle.refusals.specs.declared.Verdict.the-variants.{Accepted, Refused}
 use Rattle.refusals.specs.Search.{firstBelow}
@@ -38,7 +42,7 @@ test-fails false refusal line e = refl
 
 -- where a rule accepts, no line breaks it
 pub none-breaks : (refusal : Refusal) (breaks : ℕ → Bool) (count : ℕ) → firstLine refusal breaks count ≡ Accepted → (n : ℕ) → n < count → breaks n ≡ false
-unfolding firstLine lineVerdict
+unfolding firstLine
 none-breaks refusal breaks count e n low =
     let past : count ≤ firstBelow breaks count = ltb-false _ _ (test-fails _ _ _ e) in
     first-none breaks n count low (omega (arith, first-le breaks count))
@@ -75,15 +79,15 @@ refused-not e f = let z : _≡_ {A = ℕ} 0 1 = cc in omega arith
 -- a rule on each line, of which `first` is the first that breaks it: by itself, and before others
 module _ (refusal : Refusal) (f : ℕ → Bool) (count first : ℕ) (found : first ≡ firstBelow f count) where
   pub line : {v : Verdict} → v ≡ lineVerdict refusal first count → v ≡ firstLine refusal f count
-  unfolding firstLine
+  unfolding firstLine lineVerdict
   line e = rw (← found) e
 
   pub broken : (rest : List Verdict) → first < count → Refused refusal (first + 2) ≡ firstRefusal (firstLine refusal f count ∷ rest)
-  unfolding firstRefusal firstLine lineVerdict
+  unfolding firstRefusal firstLine
   broken rest low = rw (← found, lt-ltb first count low)
 
   pub kept : {v : Verdict} (rest : List Verdict) → count ≤ first → v ≡ firstRefusal rest → v ≡ firstRefusal (firstLine refusal f count ∷ rest)
-  unfolding firstRefusal firstLine lineVerdict
+  unfolding firstRefusal firstLine
   kept rest high next = rw (← found, le-ltb first count high) next
 
 -- no refusal has the number 0

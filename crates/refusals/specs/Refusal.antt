@@ -2,7 +2,11 @@
 -- have. Assumes nothing.
 use Prim.Native.Nat.{ℕ}
 use Rattle.refusals.specs.declared.Refusal.{Refusal}
-use Rattle.refusals.specs.declared.Refusal.the-variants.{Names, Form, LineCount, Range, ResourceGap, NoPartner, PointOrder, RepeatedPoint, UnusedField, NoParts, CommonPart, TargetPoint, TooManyPositions, TooShort, NotRealisable, RunRange, OutcomeRange, NotOpen, AtEnd, LimitResource, FullCell, UnreachedPoint, RejectLine, Chapters, RunNumber}
+use Rattle.refusals.specs.declared.Refusal.the-variants.{Names, Form, LineCount, Range, ResourceGap, NoPartner, PointOrder}
+use Rattle.refusals.specs.declared.Refusal.the-variants.{RepeatedPoint, UnusedField, NoParts, CommonPart, TargetPoint}
+use Rattle.refusals.specs.declared.Refusal.the-variants.{TooManyPositions, TooShort, NotRealisable, RunRange, OutcomeRange, NotOpen}
+use Rattle.refusals.specs.declared.Refusal.the-variants.{AtEnd, LimitResource, FullCell, UnreachedPoint, RejectLine, Chapters}
+use Rattle.refusals.specs.declared.Refusal.the-variants.{RunNumber}
 
 abbrev pub numberOf : Refusal → ℕ
 numberOf Names = 1

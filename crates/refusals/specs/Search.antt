@@ -3,6 +3,7 @@
 use mathlib.Core.Bool.{Bool, true, false, cond, _&&_, _||_}
 use mathlib.Core.List.{List, [], _∷_, _++_}
 use Prim.Native.Nat.{ℕ, zero, suc, max}
+use lib.ListN.{getD}
 use lib.Dec.{eqb}
 
 -- the first number below n at which f holds, or n
@@ -30,7 +31,16 @@ unfoldable pub greatestBelow : (ℕ → ℕ) → ℕ → ℕ
 greatestBelow f zero = zero
 greatestBelow f (suc n) = max (f n) (greatestBelow f n)
 
+-- the number at place n is k: line n is one of resource k, or of point k
+unfoldable pub isOf : List ℕ → ℕ → ℕ → Bool
+isOf numbers k n = eqb (getD numbers n 0) k
+
 -- f's values below n, in order
 unfoldable pub tabulate : ℕ → (ℕ → ℕ) → List ℕ
 tabulate zero f = []
 tabulate (suc n) f = tabulate n f ++ (f n ∷ [])
+
+-- whether a test passes at every element of a list
+unfoldable pub every : {A : Type 0} → (A → Bool) → List A → Bool
+every test [] = true
+every test (x ∷ rest) = test x && every test rest

@@ -16,18 +16,24 @@ firstRefusal [] = Accepted
 firstRefusal (Accepted ∷ rest) = firstRefusal rest
 firstRefusal (Refused refusal line ∷ rest) = Refused refusal line
 
--- "A file refusal carries the first breaking line (names line 1, so value line n is n+2)":
--- the verdict of a rule whose first breaking line is `first`, of `count` lines
+-- the verdict of a rule whose first breaking line is `first`, of `count` lines: only the code's own step cites it
 unfoldable pub lineVerdict : Refusal → ℕ → ℕ → Verdict
 lineVerdict refusal first count = cond (ltb first count) (Refused refusal (first + 2)) Accepted
 
+-- "A file refusal carries the first breaking line (names line 1, so value line n is n+2)":
 -- the verdict of a rule that the lines at which `breaks` holds break
 unfoldable pub firstLine : Refusal → (ℕ → Bool) → ℕ → Verdict
-firstLine refusal breaks count = lineVerdict refusal (firstBelow breaks count) count
+firstLine refusal breaks count = cond (ltb (firstBelow breaks count) count) (Refused refusal (firstBelow breaks count + 2)) Accepted
 
 -- "or 0 in rules 3 and 5": the verdict of a rule that names no line
 unfoldable pub noLine : Refusal → Bool → Verdict
 noLine refusal breaks = cond breaks (Refused refusal 0) Accepted
+
+-- what a call gives beside its verdict: what it found if that accepts; "With it the reader returns a record of no lines; a
+-- refused next-move returns entry 0, a refused place call 255, a refused report its own run."
+unfoldable pub ifAccepted : {A : Type 0} → Verdict → A → A → A
+ifAccepted Accepted found none = found
+ifAccepted (Refused refusal line) found none = none
 
 -- "3. There are no value lines, or over 64."
 unfoldable pub rule3 : ℕ → Verdict

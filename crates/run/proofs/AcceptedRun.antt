@@ -14,7 +14,7 @@ use Rattle.recipe.specs.declared.Recipe.{Recipe}
 use Rattle.positions.specs.declared.Configuration.{Configuration}
 use Rattle.positions.specs.declared.Sizes.{Sizes}
 use Rattle.positions.specs.Sizes.{pointsOf, sizesFor, sizesOf}
-use Rattle.positions.specs.Rules.{recordRules, checkRecords, rule13, rule14, isPosition, rule16}
+use Rattle.positions.specs.Rules.{recordRules, checkRecords, rule13, rule14, isPosition, rule16, stateFits, placeFits}
 use Rattle.positions.specs.Checked.{Checked}
 use Rattle.positions.proofs.CheckedSizes.{rules-checked}
 use Rattle.run.specs.declared.Run.{Run}
@@ -31,7 +31,7 @@ unfolding rule16
 in-position z p a e = not-false _ (noLine-accepts _ _ e)
 
 point-low : (c : Cell) (r : Recipe) (p : ℕ) (a : Configuration) → isPosition (sizesOf c r) p a ≡ true → p < pointsOf r
-unfolding isPosition sizesFor
+unfolding isPosition sizesFor stateFits placeFits
 point-low c r p a good = ltb-true _ _ (and-left _ _ good)
 
 module _ (c : Cell) (r : Recipe) (run : Run) where

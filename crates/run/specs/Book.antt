@@ -9,6 +9,7 @@ use Rattle.refusals.specs.Search.{tabulate}
 use Rattle.cell.specs.declared.Cell.{Cell}
 use Rattle.recipe.specs.declared.Recipe.{Recipe}
 use Rattle.positions.specs.declared.Configuration.{Configuration}
+use Rattle.positions.specs.declared.Sizes.{Sizes}
 use Rattle.positions.specs.Position.{entryOf}
 use Rattle.steps.specs.Lines.{resourceOf, toOf, stateOf, placeOf, kindOf, thenOf, elseOf}
 use Rattle.steps.specs.Carry.{placed}
@@ -39,13 +40,8 @@ abbrev pub Mover : Type 0
 Mover = List ℕ → Book → ℕ
 
 -- "Its move is the entry at its own position."
-unfoldable pub byTable : Cell → Recipe → List ℕ → Mover
-byTable c r table accepted b = entryOf c r table (b .point) (b .configuration)
-
--- "A rule choosing single moves names one for every list of outcomes accepted so far, the empty list too. Under a rule the
--- book has the rule's move in place of the entry"
-unfoldable pub byRule : (List ℕ → ℕ) → Mover
-byRule rule accepted b = rule accepted
+unfoldable pub byTable : Sizes → List ℕ → Mover
+byTable z table accepted b = entryOf z table (b .point) (b .configuration)
 
 unfoldable pub atEnd : Recipe → Book → Bool
 atEnd r b = eqb (kindOf r (b .point)) 0
@@ -76,10 +72,8 @@ movedTo c r p e n v =
 
 unfoldable pub configurationAfter : Cell → Recipe → ℕ → Configuration → ℕ → Configuration
 configurationAfter c r p a e =
-    record {
-      state = tabulate 6 (λ k. setTo c (letter e) (lettersUsed r p e) k (stateOf a k));
-      place = tabulate 8 (λ n. movedTo c r p e n (placeOf a n));
-    }
+    let n = lettersUsed r p e in
+    record { state = tabulate 6 (λ k. setTo c (letter e) n k (stateOf a k)); place = tabulate 8 (λ q. movedTo c r p e q (placeOf a q)) }
 
 -- "the point becomes `then`, or `else` for a test at outcome 0"
 unfoldable pub pointAfter : Recipe → ℕ → ℕ → ℕ
@@ -88,9 +82,9 @@ pointAfter r p outcome = cond (eqb (kindOf r p) 2 && eqb outcome 0) (elseOf r p)
 -- the book after its move e is made: "Kinds 1 and 2 add 1 to q. .. After kind 3 the point becomes .., and q becomes 0."
 unfoldable pub made : Cell → Recipe → Book → ℕ → ℕ → Book
 made c r b e outcome =
-    cond (eqb (entryKind e) 3)
-    (record { point = pointAfter r (b .point) outcome; configuration = configurationAfter c r (b .point) (b .configuration) e; q = 0 })
-    (record { point = b .point; configuration = configurationAfter c r (b .point) (b .configuration) e; q = b .q + 1 })
+    let a = configurationAfter c r (b .point) (b .configuration) e in
+    cond (eqb (entryKind e) 3) (record { point = pointAfter r (b .point) outcome; configuration = a; q = 0 })
+    (record { point = b .point; configuration = a; q = b .q + 1 })
 
 -- a report that is not refused
 unfoldable pub isAccepted : Cell → Recipe → Book → ℕ → ℕ → Bool

@@ -1,13 +1,13 @@
 -- "The run": the calls on a run, with the rules that each tries. Assumes nothing.
+use mathlib.Core.Path.{_≡_}
 use mathlib.Core.Bool.{cond, not}
 use mathlib.Core.List.{List, [], _∷_, _++_}
 use Prim.Native.Nat.{ℕ}
 use lib.ListN.{length, getD}
 use lib.Dec.{eqb, ltb}
 use Rattle.refusals.specs.declared.Verdict.{Verdict}
-use Rattle.refusals.specs.declared.Verdict.the-variants.{Accepted, Refused}
 use Rattle.refusals.specs.declared.Refusal.the-variants.{OutcomeRange, NotOpen, AtEnd}
-use Rattle.refusals.specs.Verdict.{firstRefusal, noLine}
+use Rattle.refusals.specs.Verdict.{firstRefusal, noLine, ifAccepted}
 use Rattle.cell.specs.declared.Cell.{Cell}
 use Rattle.recipe.specs.declared.Recipe.{Recipe}
 use Rattle.positions.specs.declared.Sizes.{Sizes}
@@ -27,7 +27,7 @@ freshRun = record { point = 0; configuration = start }
 
 -- "the entry at the run's position"
 abbrev pub entryAt : Cell → Recipe → List ℕ → Run → ℕ
-entryAt c r table run = entryOf c r table (run .point) (run .configuration)
+entryAt c r table run = entryOf (sizesOf c r) table (run .point) (run .configuration)
 
 -- what is tried of a run of accepted records, without a table
 unfoldable pub runRules : Sizes → Run → List Verdict
@@ -65,43 +65,34 @@ moveRules c r table run = entryRules c r table run ++ (rule18 c r table run ∷ 
 unfoldable pub reportRules : Cell → Recipe → List ℕ → Run → ℕ → List Verdict
 reportRules c r table run outcome = entryRules c r table run ++ (rule17 outcome ∷ rule18 c r table run ∷ rule19 r run ∷ [])
 
--- "a refused next-move returns entry 0"
-unfoldable pub moveAnswer : Verdict → ℕ → Move
-moveAnswer Accepted entry = record { verdict = Accepted; entry = entry }
-moveAnswer (Refused refusal line) entry = record { verdict = Refused refusal line; entry = 0 }
-
--- the entry at the run's position, by the rules up to 16
-unfoldable pub findEntry : Cell → Recipe → List ℕ → Run → Move
-findEntry c r table run = moveAnswer (firstRefusal (entryRules c r table run)) (entryAt c r table run)
-
--- "The next-move call gives the entry at the run's position."
+-- "The next-move call gives the entry at the run's position." "a refused next-move returns entry 0"
 unfoldable pub nextMove : Cell → Recipe → List ℕ → Run → Move
-nextMove c r table run = moveAnswer (firstRefusal (moveRules c r table run)) (entryAt c r table run)
+nextMove c r table run =
+    let verdict = firstRefusal (moveRules c r table run) in
+    record { verdict = verdict; entry = ifAccepted verdict (entryAt c r table run) 0 }
 
 -- "it makes that move; a carried do goes to `then`; a test goes to `then` on outcome 1, to `else` on 0"
 unfoldable pub nextRun : Cell → Recipe → List ℕ → Run → ℕ → Run
 nextRun c r table run outcome =
-    record {
-      point = leadsTo r (run .point) (entryAt c r table run) outcome;
-      configuration = makes c r (run .point) (run .configuration) (entryAt c r table run) outcome;
-    }
+    let e = entryAt c r table run in
+    record { point = leadsTo r (run .point) e outcome; configuration = makes c r (run .point) (run .configuration) e outcome }
 
--- "a refused report its own run"
-unfoldable pub reportAnswer : Verdict → Run → Run → Report
-reportAnswer Accepted run next = record { verdict = Accepted; run = next }
-reportAnswer (Refused refusal line) run next = record { verdict = Refused refusal line; run = run }
-
--- "A report takes a run and gives the next run"
+-- "A report takes a run and gives the next run"; "a refused report its own run"
 unfoldable pub reportOf : Cell → Recipe → List ℕ → Run → ℕ → Report
 reportOf c r table run outcome =
-    reportAnswer (firstRefusal (reportRules c r table run outcome)) run (nextRun c r table run outcome)
+    let verdict = firstRefusal (reportRules c r table run outcome) in
+    record { verdict = verdict; run = ifAccepted verdict (nextRun c r table run outcome) run }
 
--- "a refused place call 255"
-unfoldable pub placeAnswer : Verdict → ℕ → Place
-placeAnswer Accepted place = record { verdict = Accepted; place = place }
-placeAnswer (Refused refusal line) place = record { verdict = Refused refusal line; place = 255 }
+-- "a second form of report advances the line screen's run record in its own storage, equal in all else": the verdict that it
+-- answers on the record `before`, and the record afterwards. A report by value returns the same two
+pub record Stored (c : Cell) (r : Recipe) (table : List ℕ) (before : Run) (outcome : ℕ) (verdict : Verdict) (after : Run) : Type 0 where
+  pub told : verdict ≡ reportOf c r table before outcome .verdict
+  pub kept : after ≡ reportOf c r table before outcome .run
 
--- "A place call has no table and stops after rule 16; it gives a part's place, or 255 for a part number of P or more."
+-- "A place call has no table and stops after rule 16; it gives a part's place, or 255 for a part number of P or more"; "a refused
+-- place call 255"
 unfoldable pub partPlace : Cell → Recipe → Run → ℕ → Place
 partPlace c r run part =
-    placeAnswer (firstRefusal (placeRules c r run)) (cond (ltb part (sizesOf c r .parts)) (getD (run .configuration .place) part 0) 255)
+    let verdict = firstRefusal (placeRules c r run) in
+    let place = cond (ltb part (sizesOf c r .parts)) (getD (run .configuration .place) part 0) 255 in
+    record { verdict = verdict; place = ifAccepted verdict place 255 }

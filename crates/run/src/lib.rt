@@ -3,8 +3,8 @@ ghost use mathlib.Core.Path.{_≡_};
 ghost use Rattle.refusals.specs.declared.Verdict.the-variants.{Refused};
 ghost use Rattle.refusals.specs.Verdict.{firstRefusal};
 ghost use Rattle.positions.specs.Sizes.{Fitting};
-ghost use Rattle.run.specs.Calls.{freshRun, runRules, tableRules, findEntry, nextMove, reportOf, partPlace};
-ghost use Rattle.run.specs.Record.{Stored};
+ghost use Rattle.run.specs.Calls.{runRules, tableRules, freshRun, nextMove, reportOf, Stored, partPlace};
+ghost use Rattle.run.specs.Steps.{findEntry};
 use cell::Cell;
 use positions::Configuration;
 use positions::Sizes;
@@ -129,7 +129,7 @@ impl Run {
         let Verdict::Accepted = verdict else {
             return found;
         };
-        if !steps::is_open(cell, recipe, self.point, self.configuration, found.entry) {
+        if !moves::is_open(cell, recipe, self.point, self.configuration, found.entry) {
             return Move {
                 verdict: Verdict::Refused(Refusal::NotOpen, 0),
                 entry: 0,
@@ -151,13 +151,13 @@ impl Run {
         if 1 < outcome {
             return refused(self, Refusal::OutcomeRange);
         }
-        if !steps::is_open(cell, recipe, self.point, self.configuration, entry) {
+        if !moves::is_open(cell, recipe, self.point, self.configuration, entry) {
             return refused(self, Refusal::NotOpen);
         }
         if steps::point_kind(recipe, self.point) == 0 {
             return refused(self, Refusal::AtEnd);
         }
-        let configuration = steps::make(cell, recipe, self.point, self.configuration, entry);
+        let configuration = moves::make(cell, recipe, self.point, self.configuration, entry);
         self.point = steps::lead(recipe, self.point, entry, outcome);
         self.configuration = configuration;
         Report {

@@ -10,38 +10,36 @@ use native.Mathlib.Omega.{arith}
 use lib.ListN.{length-map}
 use lib.Dec.{eqb}
 use borrow.Author.Tests.{eqb-true, eqb-false, eq-eqb, ne-eqb}
-use Rattle.refusals.specs.declared.Verdict.the-variants.{Accepted}
 use Rattle.refusals.specs.Search.{tabulate}
 use Rattle.refusals.proofs.TabulatedLists.{tabulate-is, tabulate-same}
 use Rattle.cell.specs.declared.Cell.{Cell}
-use Rattle.cell.specs.Rules.{checkCell}
 use Rattle.recipe.specs.declared.Recipe.{Recipe}
-use Rattle.recipe.specs.Rules.{checkRecipe}
 use Rattle.positions.specs.declared.Configuration.{Configuration}
-use Rattle.positions.specs.Sizes.{pointsOf, partsOf}
+use Rattle.positions.specs.declared.Sizes.{Sizes}
+use Rattle.positions.specs.Checked.{Checked}
 use Rattle.steps.specs.Lines.{resourceOf, toOf, stateOf, placeOf, kindOf, thenOf, elseOf}
 use Rattle.steps.specs.Joint.{stateAfter, after}
 use Rattle.steps.specs.Carry.{placed, partsMoved, afterCarry}
 use Rattle.steps.specs.Entry.{entryKind, letter, lettersUsed, only, stepOf}
 use Rattle.steps.specs.Effect.{silent, carried, effect, opens, leaves, makes, leadsTo}
 use Rattle.steps.specs.Single.{handOver, carriesTo}
-use Rattle.steps.proofs.PointLines.{kind-most}
 use Rattle.steps.proofs.MadeConfiguration.{handed-at}
-use Rattle.steps.proofs.Effects.{Open, open-silent, open-carried, open-ended, open-is, read-silent, read-carried, read-ended, makes-is, leads-silent, do-leads, passed-leads, failed-leads}
+use Rattle.steps.proofs.Effects.{Open, open-silent, open-carried, open-ended, open-is, read-silent, read-carried, read-ended, makes-is}
+use Rattle.steps.proofs.Effects.{leads-silent, do-leads, passed-leads, failed-leads}
 use Rattle.steps.proofs.SingleEffects.{effect-silent, effect-carry}
 use Rattle.steps.proofs.SingleMoves.{SilentMove, internal, transfer, silent-move, carry-makes, do-places, test-places, hands-over, hands-keeps}
 use Rattle.steps.proofs.OpenByKind.{end-opens, opens-joint}
-use Rattle.steps.proofs.MovesStayInRange.{position-range}
 use Rattle.run.specs.Book.{Book, atEnd, isOpen, setTo, movedTo, configurationAfter, pointAfter, made}
 use Rattle.simulation.specs.Simulation.{Position}
+use Rattle.simulation.proofs.CellMachine.{position-kind}
 
-pub record BookIs (c : Cell) (r : Recipe) : Type 0 where
+pub record BookIs (c : Cell) (r : Recipe) (z : Sizes) : Type 0 where
   pub open-is :
       (b : Book) (e : ℕ)
       → isOpen c r b e ≡ opens c r (b .point) (b .configuration) e
   pub made-is :
       (b : Book) (e outcome : ℕ)
-      → Position c r (b .point) (b .configuration)
+      → Position z (b .point) (b .configuration)
       → (kindOf r (b .point) ≡ 0 → ⊥)
       → opens c r (b .point) (b .configuration) e ≡ true
       → outcome ≤ 1
@@ -104,8 +102,8 @@ module _ (c : Cell) (r : Recipe) (p e : ℕ) where
 
 -- a cell and a recipe that pass their rules, a position, and a move that is open there
 module _
-    (c : Cell) (r : Recipe) (ok : checkCell c ≡ Accepted) (fine : checkRecipe r ≡ Accepted)
-    (p : ℕ) (a : Configuration) (here : Position c r p a) (e : ℕ)
+    (c : Cell) (r : Recipe) (z : Sizes) (K : Checked c r z)
+    (p : ℕ) (a : Configuration) (here : Position z p a) (e : ℕ)
   where
     states-step : tabulate 6 (λ k. setTo c (letter e) (lettersUsed r p e) k (stateOf a k)) ≡ after c (stepOf c r p e) a .state
     unfolding after stepOf
@@ -125,7 +123,8 @@ module _
         decide false d = refl
 
     -- the book's configuration, by its states and its places
-    joined : (b : Configuration) → after c (stepOf c r p e) a .state ≡ b .state → tabulate 8 (λ n. movedTo c r p e n (placeOf a n)) ≡ b .place → configurationAfter c r p a e ≡ b
+    joined : (b : Configuration) → after c (stepOf c r p e) a .state ≡ b .state
+        → tabulate 8 (λ n. movedTo c r p e n (placeOf a n)) ≡ b .place → configurationAfter c r p a e ≡ b
     unfolding configurationAfter
     joined b states places = λ i. record { state = (states-step ∙ states) i; place = places i }
 
@@ -136,22 +135,27 @@ module _
     silent-places b (transfer kind move) =
         let o : ℕ = resourceOf c (letter e 0) in
         let i : ℕ = resourceOf c (letter e 1) in
-        tabulate-is (λ n. movedTo c r p e n (placeOf a n)) (map (handOver o i) (a .place)) 8 (length-map (a .place) (handOver o i) ∙ here .eight) (λ n low. go-over c r p e kind n (placeOf a n) ∙ sym (handed-at o i (a .place) n))
+        tabulate-is (λ n. movedTo c r p e n (placeOf a n)) (map (handOver o i) (a .place)) 8
+        (length-map (a .place) (handOver o i) ∙ here .eight)
+        (λ n low. go-over c r p e kind n (placeOf a n) ∙ sym (handed-at o i (a .place) n))
         ∙ sym (ap (λ (d : Configuration). d .place) (move .made))
 
     silent-made : (b : Configuration) → effect c r p a e ≡ silent b → configurationAfter c r p a e ≡ b
     silent-made b is =
         let quiet = read-silent c r p a e is in
-        let move = silent-move c a e (sym (effect-silent c r p a e ok (quiet .some) (here .six) (here .eight) (quiet .kind)) ∙ is) in
+        let move =
+        silent-move c a e (sym (effect-silent c r p a e (K .cell-passes) (quiet .some) (here .six) (here .eight) (quiet .kind)) ∙ is) in
         joined b (sym (ap (λ (d : Configuration). d .state) (quiet .made))) (silent-places b move)
 
-    carry-places : (b : Configuration) (outcome : ℕ) → entryKind e ≡ 3 → b ≡ carriesTo c r p a e outcome → tabulate 8 (λ n. movedTo c r p e n (placeOf a n)) ≡ b .place
+    carry-places : (b : Configuration) (outcome : ℕ) → entryKind e ≡ 3 → b ≡ carriesTo c r p a e outcome
+        → tabulate 8 (λ n. movedTo c r p e n (placeOf a n)) ≡ b .place
     carry-places b outcome kind is = decide (eqb (kindOf r p) 1) refl ∙ sym (ap (λ (d : Configuration). d .place) is)
       where
         decide : (t : Bool) → eqb (kindOf r p) 1 ≡ t → tabulate 8 (λ n. movedTo c r p e n (placeOf a n)) ≡ carriesTo c r p a e outcome .place
         decide true one =
             let work = eqb-true (kindOf r p) 1 one in
-            tabulate-same (λ n. movedTo c r p e n (placeOf a n)) (λ n. placed c r p (letter e) n (placeOf a n)) 8 (λ n low. go-there c r p e kind work n (placeOf a n))
+            tabulate-same (λ n. movedTo c r p e n (placeOf a n)) (λ n. placed c r p (letter e) n (placeOf a n)) 8
+            (λ n low. go-there c r p e kind work n (placeOf a n))
             ∙ sym (do-places c r p a e outcome work)
         decide false other =
             let test = eqb-false (kindOf r p) 1 other in
@@ -159,12 +163,14 @@ module _
             ∙ sym (test-places c r p a e outcome test)
 
     most : kindOf r p ≤ 2
-    most = kind-most r fine p (position-range c (pointsOf r) (partsOf r) p a (here .in-range) .point)
+    most = position-kind c r z K p a here
 
     carried-made : (b d : Configuration) → effect c r p a e ≡ carried b d → (configurationAfter c r p a e ≡ b) × (configurationAfter c r p a e ≡ d)
     carried-made b d is =
         let carry = read-carried c r p a e is in
-        let made = carry-makes c r p a e (sym (effect-carry c r p a e ok (carry .some) (here .six) (here .eight) most (carry .kind)) ∙ is) in (
+        let made =
+        carry-makes c r p a e
+        (sym (effect-carry c r p a e (K .cell-passes) (carry .some) (here .six) (here .eight) most (carry .kind)) ∙ is) in (
           joined b (carry-step-states 1 ∙ sym (ap (λ (f : Configuration). f .state) (carry .passed))) (carry-places b 1 (carry .kind) (made .0)),
           joined d (carry-step-states 0 ∙ sym (ap (λ (f : Configuration). f .state) (carry .failed))) (carry-places d 0 (carry .kind) (made .1)),
         )
@@ -179,7 +185,8 @@ module _
 
         go : Open c r p a e → configurationAfter c r p a e ≡ makes c r p a e outcome
         go (open-silent b is) = silent-made b is ∙ sym (makes-is c r p a e (silent b) is outcome)
-        go (open-carried b d is) = let made = carried-made b d is in either (eqb outcome 1) _ b d (made .0) (made .1) ∙ sym (makes-is c r p a e (carried b d) is outcome)
+        go (open-carried b d is) = let made = carried-made b d is in
+            either (eqb outcome 1) _ b d (made .0) (made .1) ∙ sym (makes-is c r p a e (carried b d) is outcome)
         go (open-ended is) = absurd (some (read-ended c r p a e is .done))
 
     point-made : (outcome : ℕ) → outcome ≤ 1 → (kindOf r p ≡ 0 → ⊥) → entryKind e ≡ 3 → pointAfter r p outcome ≡ leadsTo r p e outcome
@@ -190,7 +197,8 @@ module _
         both true = refl
         both false = refl
 
-        decide : (s t : Bool) → eqb (kindOf r p) 1 ≡ s → eqb outcome 1 ≡ t → cond (eqb (kindOf r p) 2 && eqb outcome 0) (elseOf r p) (thenOf r p) ≡ leadsTo r p e outcome
+        decide : (s t : Bool) → eqb (kindOf r p) 1 ≡ s → eqb outcome 1 ≡ t
+            → cond (eqb (kindOf r p) 2 && eqb outcome 0) (elseOf r p) (thenOf r p) ≡ leadsTo r p e outcome
         decide true t is is′ = rw (eqb-true (kindOf r p) 1 is) (sym (do-leads r p e outcome kind (eqb-true (kindOf r p) 1 is)))
         decide false true is is′ = rw (eqb-true outcome 1 is′) (both (eqb (kindOf r p) 2) ∙ sym (passed-leads r p e 1 kind (eqb-false (kindOf r p) 1 is) refl))
         decide false false is is′ =
@@ -201,11 +209,10 @@ module _
             rw (eq-eqb (kindOf r p) 2 two, eq-eqb outcome 0 nil) (sym (failed-leads r p e outcome kind ne not-one))
 
 made-single :
-    (c : Cell) (r : Recipe)
-    → checkCell c ≡ Accepted
-    → checkRecipe r ≡ Accepted
+    (c : Cell) (r : Recipe) (z : Sizes)
+    → Checked c r z
     → (b : Book) (e outcome : ℕ)
-    → Position c r (b .point) (b .configuration)
+    → Position z (b .point) (b .configuration)
     → (kindOf r (b .point) ≡ 0 → ⊥)
     → opens c r (b .point) (b .configuration) e ≡ true
     → outcome ≤ 1
@@ -216,10 +223,10 @@ made-single :
       q = cond (eqb (entryKind e) 3) 0 (b .q + 1);
     }
 unfolding made
-made-single c r ok fine b e outcome here some able low = decide (eqb (entryKind e) 3) refl
+made-single c r z K b e outcome here some able low = decide (eqb (entryKind e) 3) refl
   where
     configuration : configurationAfter c r (b .point) (b .configuration) e ≡ makes c r (b .point) (b .configuration) e outcome
-    configuration = configuration-made c r ok fine (b .point) (b .configuration) here e outcome some able
+    configuration = configuration-made c r z K (b .point) (b .configuration) here e outcome some able
 
     decide :
         (t : Bool)
@@ -229,15 +236,16 @@ made-single c r ok fine b e outcome here some able low = decide (eqb (entryKind 
         (record { point = b .point; configuration = configurationAfter c r (b .point) (b .configuration) e; q = b .q + 1 }))
         (record { point = leadsTo r (b .point) e outcome; configuration = makes c r (b .point) (b .configuration) e outcome; q = cond t 0 (b .q + 1) })
     decide true is =
-        let point : pointAfter r (b .point) outcome ≡ leadsTo r (b .point) e outcome = point-made c r ok fine (b .point) (b .configuration) here e outcome low some (eqb-true (entryKind e) 3 is) in
+        let point : pointAfter r (b .point) outcome ≡ leadsTo r (b .point) e outcome =
+        point-made c r z K (b .point) (b .configuration) here e outcome low some (eqb-true (entryKind e) 3 is) in
         λ i. record { point = point i; configuration = configuration i; q = 0 }
     decide false is =
         let point : b .point ≡ leadsTo r (b .point) e outcome = sym (leads-silent r (b .point) e outcome (eqb-false (entryKind e) 3 is)) in
         λ i. record { point = point i; configuration = configuration i; q = b .q + 1 }
 
-pub book-is : (c : Cell) (r : Recipe) → checkCell c ≡ Accepted → checkRecipe r ≡ Accepted → BookIs c r
-book-is c r ok fine =
+pub book-is : (c : Cell) (r : Recipe) (z : Sizes) → Checked c r z → BookIs c r z
+book-is c r z K =
     record {
       open-is = opens-book c r;
-      made-is = made-single c r ok fine;
+      made-is = made-single c r z K;
     }

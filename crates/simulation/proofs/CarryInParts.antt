@@ -2,7 +2,7 @@
 -- other is silent, and in either order they make the same.
 -- Assumes nothing.
 use mathlib.Core.Path.{_≡_, refl, sym, ap, _∙_}
-use mathlib.Core.Bool.{Bool, true, false, cond, not, _||_}
+use mathlib.Core.Bool.{Bool, true, false, cond, not, _&&_, _||_}
 use mathlib.Core.List.{List}
 use Prim.Native.Nat.{ℕ, zero, suc, _+_, _<_, _≤_}
 use native.Mathlib.Numerals.{add-one}
@@ -22,11 +22,12 @@ use Rattle.recipe.specs.Rules.{holdsPart}
 use Rattle.positions.specs.declared.Configuration.{Configuration}
 use Rattle.steps.specs.Lines.{resourceOf, placeOf, firstLineOf, linesOf, lineOf, kindOf, isTaken, isGiven}
 use Rattle.steps.specs.Joint.{Choice, rests, mayDo, acts, isStep, isSilent, handed, placeAfter, after}
-use Rattle.steps.specs.Carry.{serves, matches, standsAt, present, isFree, free, carriesDo, carriesTest, carries, putThere, placed, partsMoved, afterCarry}
+use Rattle.steps.specs.Carry.{serves, matches, standsAt, present, isFree, free, carries, putThere, placed, partsMoved, afterCarry}
 use Rattle.steps.proofs.ReadyLines.{both, resources-fit}
 use Rattle.steps.proofs.CarryLines.{match-at, taken-at, match-count}
 use Rattle.steps.proofs.MadeConfiguration.{join}
-use Rattle.simulation.proofs.StepInParts.{part, rest, Closed, part-in, part-out, rest-in, part-silent, part-keeps, may-same, part-step, after-place, rest-step, parted-after}
+use Rattle.simulation.proofs.StepInParts.{part, rest, Closed, part-in, part-out, rest-in, part-silent, part-keeps, may-same}
+use Rattle.simulation.proofs.StepInParts.{part-step, after-place, rest-step, parted-after}
 
 -- the resources in s take all the operations, or none
 abbrev pub AllOperations : Cell → Choice → (ℕ → Bool) → Type 0
@@ -36,14 +37,10 @@ abbrev pub NoOperation : Cell → Choice → (ℕ → Bool) → Type 0
 NoOperation c x s = (k : ℕ) → k < 6 → acts c 1 (x k) ≡ true → s k ≡ false
 
 -- a step that carries a point is a step, and matches its lines
-carrying : (c : Cell) (r : Recipe) (p : ℕ) (x : Choice) (ls : ℕ → ℕ) (a : Configuration) → carries c r p x ls a ≡ true → (isStep c a x ≡ true) × (matches c r p x ls ≡ true)
-unfolding carries carriesDo carriesTest
-carrying c r p x ls a = decide (eqb (kindOf r p) 1) (eqb (kindOf r p) 2)
-  where
-    decide : (b d : Bool) → cond b (carriesDo c r p x ls a) (cond d (carriesTest c r p x ls a) false) ≡ true → (isStep c a x ≡ true) × (matches c r p x ls ≡ true)
-    decide true d h = (search and-left, search (and-left, and-right))
-    decide false true h = (search and-left, search (and-left, and-right))
-    decide false false h = (cc, cc)
+carrying : (c : Cell) (r : Recipe) (p : ℕ) (x : Choice) (ls : ℕ → ℕ) (a : Configuration)
+    → carries c r p x ls a ≡ true → (isStep c a x ≡ true) × (matches c r p x ls ≡ true)
+unfolding carries
+carrying c r p x ls a h = (search and-left, search (and-left, and-right))
 
 -- a step that matches, where parts are present and free as they were, carries what was carried
 carries-by :
@@ -54,21 +51,21 @@ carries-by :
     → (free r p a ≡ true → free r p b ≡ true)
     → carries c r p x ls a ≡ true
     → carries c r p y ls b ≡ true
-unfolding carries carriesDo carriesTest
+unfolding carries
 carries-by c r p x y ls a b step match stand out = decide (eqb (kindOf r p) 1) (eqb (kindOf r p) 2)
   where
     decide :
         (s t : Bool)
-        → cond s (carriesDo c r p x ls a) (cond t (carriesTest c r p x ls a) false) ≡ true
-        → cond s (carriesDo c r p y ls b) (cond t (carriesTest c r p y ls b) false) ≡ true
+        → (isStep c a x && (matches c r p x ls && (present c r p ls a && cond s (free r p a) t))) ≡ true
+        → (isStep c b y && (matches c r p y ls && (present c r p ls b && cond s (free r p b) t))) ≡ true
     decide true t h =
         let there : present c r p ls a ≡ true = search (and-left, and-right) in
         let clear : free r p a ≡ true = search (and-left, and-right) in
         both _ _ step (both _ _ match (both _ _ (stand there) (out clear)))
-    decide false true h =
+    decide false t h =
         let there : present c r p ls a ≡ true = search (and-left, and-right) in
-        both _ _ step (both _ _ match (stand there))
-    decide false false h = h
+        let test : t ≡ true = search (and-left, and-right) in
+        both _ _ step (both _ _ match (both _ _ (stand there) test))
 
 -- the part with the operations matches what the step matches
 module _
@@ -108,7 +105,10 @@ module _
     unfolding matches
     part-matches =
         let served : allBelow (serves c r p (part x s) ls) (linesOf r p) ≡ true = all-by (serves c r p (part x s) ls) (linesOf r p) part-serves in
-        let count : eqb (countBelow (λ k. acts c 1 (part x s k)) 6) (linesOf r p) ≡ true = eq-eqb _ _ (count-same (λ k. acts c 1 (part x s k)) (λ k. acts c 1 (x k)) 6 part-operates ∙ match-count c r p x ls match) in
+        let count : eqb (countBelow (λ k. acts c 1 (part x s k)) 6) (linesOf r p) ≡ true =
+        eq-eqb _ _
+        (count-same (λ k. acts c 1 (part x s k)) (λ k. acts c 1 (x k)) 6 part-operates
+        ∙ match-count c r p x ls match) in
         search (both, and-left, and-right)
 
     -- and the others are silent
@@ -156,7 +156,11 @@ module _ (c : Cell) (r : Recipe) (p : ℕ) (ls : ℕ → ℕ) (y : Choice) (b : 
   moved-step : isStep c b y ≡ true → isStep c (partsMoved c r p ls b) y ≡ true
   unfolding isStep partsMoved
   moved-step step =
-      both _ _ (all-by (λ k. mayDo c (partsMoved c r p ls b) k (y k)) 6 (λ k low. may-same c b (partsMoved c r p ls b) k (y k) refl (all-at (λ k. mayDo c b k (y k)) 6 k (search and-left) low))) (search and-right)
+      both _ _
+      (all-by (λ k. mayDo c (partsMoved c r p ls b) k (y k)) 6
+      (λ k low. may-same c b (partsMoved c r p ls b) k (y k) refl
+      (all-at (λ k. mayDo c b k (y k)) 6 k (search and-left) low)))
+      (search and-right)
 
   module _ (still : (j : ℕ) → j < linesOf r p → y (resourceOf c (ls j)) ≡ rests) where
     placed-stays : (q v : ℕ) → placeAfter c y (placed c r p ls q v) ≡ placed c r p ls q (placeAfter c y v)
@@ -222,7 +226,9 @@ module _
           each : (j : ℕ) → j < linesOf r p → allBelow (stood middle j) 8 ≡ true
           each j less =
               let all : allBelow (stood a j) 8 ≡ true = all-at (λ j. allBelow (stood a j) 8) (linesOf r p) j there less in
-              all-by (stood middle j) 8 (λ q low. stands-by (holdsPart (getD (r .takes) (lineOf r p j) 0) q) (placeOf a q) (placeOf middle q) (resourceOf c (ls j)) (kept q low) (all-at (stood a j) 8 q all low))
+              all-by (stood middle j) 8
+              (λ q low. stands-by (holdsPart (getD (r .takes) (lineOf r p j) 0) q) (placeOf a q) (placeOf middle q)
+              (resourceOf c (ls j)) (kept q low) (all-at (stood a j) 8 q all low))
             where
               kept : (q : ℕ) → q < 8 → placeOf a q ≡ resourceOf c (ls j) + 1 → placeOf middle q ≡ resourceOf c (ls j) + 1
               kept q low here =
@@ -235,9 +241,11 @@ module _
       spared b q = isFree (isTaken r p q) (isGiven r p q) (placeOf b q)
 
       rest-free : free r p a ≡ true → free r p middle ≡ true
-      unfolding free placeAfter
+      unfolding free placeAfter isFree
       rest-free clear =
-          all-by (spared middle) 8 (λ q low. free-by (isTaken r p q) (isGiven r p q) (placeOf a q) (placeOf middle q) (outside q low) (all-at (spared a) 8 q clear low))
+          all-by (spared middle) 8
+          (λ q low. free-by (isTaken r p q) (isGiven r p q) (placeOf a q) (placeOf middle q) (outside q low)
+          (all-at (spared a) 8 q clear low))
         where
           outside : (q : ℕ) → q < 8 → placeOf a q ≡ 0 → placeOf middle q ≡ 0
           outside q low here = after-place c good a x step s closed q low ∙ ap (placeAfter c (part x s)) here
@@ -245,7 +253,8 @@ module _
       pub rest-carries : carries c r p (rest x s) ls middle ≡ true
       unfolding rest
       rest-carries =
-          carries-by c r p x (rest x s) ls a middle (rest-step c good a x step s closed) (part-matches c good r p x ls match (λ k. not (s k)) others-all) rest-present rest-free carry
+          carries-by c r p x (rest x s) ls a middle (rest-step c good a x step s closed)
+          (part-matches c good r p x ls match (λ k. not (s k)) others-all) rest-present rest-free carry
 
       pub parted-carry : (outcome : ℕ) → ((q : ℕ) → q < 8 → placeOf a q ≤ 6) → afterCarry c r p (rest x s) ls outcome middle ≡ afterCarry c r p x ls outcome a
       unfolding afterCarry
@@ -275,7 +284,8 @@ module _
           decide true = moved-step c r p ls (rest x s) middle may
           decide false = may
 
-      pub carried-parted : (outcome : ℕ) → ((q : ℕ) → q < 8 → placeOf a q ≤ 6) → after c (rest x s) (afterCarry c r p (part x s) ls outcome a) ≡ afterCarry c r p x ls outcome a
+      pub carried-parted : (outcome : ℕ) → ((q : ℕ) → q < 8 → placeOf a q ≤ 6)
+          → after c (rest x s) (afterCarry c r p (part x s) ls outcome a) ≡ afterCarry c r p x ls outcome a
       unfolding afterCarry
       carried-parted outcome most = decide (eqb (kindOf r p) 1)
         where

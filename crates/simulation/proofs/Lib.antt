@@ -1,8 +1,7 @@
 -- The method over any machine (Machine, LostNeverHeld, ClosedSet, Stages) and the cell and the recipe as one (CellMachine);
 -- joint steps part by part and as single moves (PortPairs, StepInParts, CarryInParts, SinglePaths, StepIsPath, JointIsSingle);
--- what the book does (BookBySingles), closed tables (ClosedTablePromises) and reports of the second form (RecordPromises),
--- rules (LostBreaksRules, TableRule); certificates that the checker computes (NumberedPositions, StageTest, StageListSound,
--- ClosedTableTest).
+-- what the book does (BookBySingles), closed tables (ClosedTablePromises), rules (LostBreaksRules, TableRule); certificates that
+-- the checker computes (NumberedPositions, StageTest, StageListSound, ClosedTableTest).
 pub mod Machine
 pub mod LostNeverHeld
 pub mod ClosedSet
@@ -16,7 +15,6 @@ pub mod StepIsPath
 pub mod JointIsSingle
 pub mod BookBySingles
 pub mod ClosedTablePromises
-pub mod RecordPromises
 pub mod LostBreaksRules
 pub mod TableRule
 pub mod SimulationByMoves

@@ -8,23 +8,22 @@ use Prim.Native.Nat.{ℕ, zero, suc, _+_, _*_, _≤_}
 use native.Mathlib.Omega.{arith}
 use lib.Dec.{eqb}
 use borrow.Author.Tests.{ne-eqb, le-ltb}
-use Rattle.refusals.specs.declared.Verdict.the-variants.{Accepted}
+use Rattle.refusals.specs.Search.{every}
 use Rattle.refusals.proofs.Verdicts.{and-left, and-right}
 use Rattle.cell.specs.declared.Cell.{Cell}
-use Rattle.cell.specs.Rules.{checkCell}
 use Rattle.recipe.specs.declared.Recipe.{Recipe}
-use Rattle.recipe.specs.Rules.{checkRecipe}
 use Rattle.positions.specs.declared.Configuration.{Configuration}
-use Rattle.positions.specs.Sizes.{sizesOf}
+use Rattle.positions.specs.declared.Sizes.{Sizes}
+use Rattle.positions.specs.Checked.{Checked}
 use Rattle.steps.specs.Lines.{kindOf}
 use Rattle.steps.specs.Entry.{entryKind}
 use Rattle.steps.specs.Effect.{Effect, shut, silent, carried, ended, effect, isMove, opens, leaves, makes, leadsTo}
 use Rattle.steps.proofs.Effects.{read-silent, read-carried, read-ended, is-open, makes-is, leads-silent}
-use Rattle.run.specs.Book.{Book, Call, asks, reports, opened, byRule, atEnd, isOpen, refusalOf, isAccepted, made, turned, noted, answer, moments, answers}
-use Rattle.run.specs.Promises.{every, neverShut, fewSilent}
+use Rattle.run.specs.Book.{Book, Call, asks, reports, opened, atEnd, isOpen, refusalOf, isAccepted, made, turned, noted, answer, moments, answers}
+use Rattle.run.specs.Promises.{neverShut, fewSilent, Rule}
 use Rattle.simulation.specs.Simulation.{Position}
-use Rattle.simulation.specs.Rule.{Rule, Breaks}
-use Rattle.simulation.proofs.Machine.{goes, Way, here, then, Lost, lost}
+use Rattle.simulation.specs.Rule.{Breaks}
+use Rattle.simulation.proofs.Machine.{goes, SilentWay, here, then, Lost, lost}
 use Rattle.simulation.proofs.BookBySingles.{BookIs}
 use Rattle.simulation.proofs.CellMachine.{kindIn, machineOf, kind-finish, goes-leads, laws}
 
@@ -33,29 +32,29 @@ rest : {A : Type 0} (test : A → Bool) (x : A) (xs : List A) → every test (x 
 unfolding every
 rest test x xs all = and-right (test x) _ all
 
-module _ (c : Cell) (r : Recipe) (rule : Rule) where
+module _ (c : Cell) (r : Recipe) (z : Sizes) (rule : Rule) where
   -- under the rule, a list of calls on the book b after the outcomes h breaks a promise
   record Fails (h : List ℕ) (b : Book) : Type 0 where
     calls : List Call
     broken :
-        every neverShut (answers c r (moments c r (byRule rule) h b calls)) ≡ true
-        → every (fewSilent c r) (moments c r (byRule rule) h b calls) ≡ true
+        every neverShut (answers c r (moments c r (λ accepted d. rule accepted) h b calls)) ≡ true
+        → every (fewSilent c r z) (moments c r (λ accepted d. rule accepted) h b calls) ≡ true
         → ⊥
 
   -- too many silent moves, for which any call will do
-  idle-fails : (h : List ℕ) (b : Book) → sizesOf c r .joint * sizesOf c r .ways ≤ b .q → Fails h b
+  idle-fails : (h : List ℕ) (b : Book) → z .joint * z .ways ≤ b .q → Fails h b
   unfolding moments every fewSilent turned
   idle-fails h b many =
       record {
         calls = asks ∷ [];
         broken = λ shut-never few.
-            let z : false ≡ true = sym (le-ltb (b .q) (sizesOf c r .joint * sizesOf c r .ways) many) ∙ and-left _ _ few in
+            let wrong : false ≡ true = sym (le-ltb (b .q) (z .joint * z .ways) many) ∙ and-left _ _ few in
             let y : _≡_ {A = ℕ} 0 1 = cc in omega arith;
       }
 
   -- a move that is shut, for which the next-move call is refused
   shut-fails : (h : List ℕ) (b : Book) → isOpen c r b (rule h) ≡ false → Fails h b
-  unfolding moments answers answer every neverShut byRule
+  unfolding moments answers answer every neverShut
   shut-fails h b closed =
       record {
         calls = asks ∷ [];
@@ -68,9 +67,10 @@ module _ (c : Cell) (r : Recipe) (rule : Rule) where
   next-moments :
       (h : List ℕ) (b : Book) (outcome : ℕ) (calls : List Call)
       → isAccepted c r b (rule h) outcome ≡ true
-      → moments c r (byRule rule) h b (reports outcome ∷ calls)
-      ≡ record { book = b; move = rule h; call = reports outcome } ∷ moments c r (byRule rule) (outcome ∷ h) (made c r b (rule h) outcome) calls
-  unfolding moments byRule turned noted
+      → moments c r (λ accepted d. rule accepted) h b (reports outcome ∷ calls)
+      ≡ record { book = b; move = rule h; call = reports outcome } ∷ moments c r (λ accepted d. rule accepted) (outcome ∷ h)
+      (made c r b (rule h) outcome) calls
+  unfolding moments turned noted
   next-moments h b outcome calls passes = rw passes
 
   next-fails :
@@ -84,25 +84,25 @@ module _ (c : Cell) (r : Recipe) (rule : Rule) where
         calls = reports outcome ∷ later .calls;
         broken = λ shut-never few.
             let is = next-moments h b outcome (later .calls) passes in
-            later .broken (rest neverShut _ _ (rw is at shut-never)) (rest (fewSilent c r) _ _ (rw is at few));
+            later .broken (rest neverShut _ _ (rw is at shut-never)) (rest (fewSilent c r z) _ _ (rw is at few));
       }
 
-module _ (c : Cell) (r : Recipe) (ok : checkCell c ≡ Accepted) (fine : checkRecipe r ≡ Accepted) (is : BookIs c r) (rule : Rule) where
+module _ (c : Cell) (r : Recipe) (z : Sizes) (K : Checked c r z) (is : BookIs c r z) (rule : Rule) where
   -- a report of outcome 0 or 1, the rule's move being open and the point no end
   report-fails :
       (h : List ℕ) (b next : Book) (outcome : ℕ)
       → outcome ≤ 1
-      → Position c r (b .point) (b .configuration)
+      → Position z (b .point) (b .configuration)
       → (kindOf r (b .point) ≡ 0 → ⊥)
       → opens c r (b .point) (b .configuration) (rule h) ≡ true
       → leadsTo r (b .point) (rule h) outcome ≡ next .point
       → makes c r (b .point) (b .configuration) (rule h) outcome ≡ next .configuration
       → cond (eqb (entryKind (rule h)) 3) 0 (b .q + 1) ≡ next .q
-      → Fails c r rule (outcome ∷ h) next
-      → Fails c r rule h b
+      → Fails c r z rule (outcome ∷ h) next
+      → Fails c r z rule h b
   unfolding isAccepted refusalOf atEnd
   report-fails h b next outcome low valid some able leads makes-it counts later =
-      next-fails c r rule h b outcome
+      next-fails c r z rule h b outcome
       (rw (le-ltb 1 outcome low, is .open-is b (rule h), able, ne-eqb (kindOf r (b .point)) 0 some))
       (rw (is .made-is b (rule h) outcome valid some able low, leads, makes-it, counts) later)
 
@@ -111,65 +111,71 @@ module _ (c : Cell) (r : Recipe) (ok : checkCell c ≡ Accepted) (fine : checkRe
       (p : ℕ) (start : Configuration)
       → (kindOf r p ≡ 0 → ⊥)
       → ((b passed failed : Configuration) (q : ℕ) (h : List ℕ)
-      → Way (machineOf c r) p start b
-      → Position c r p b
+      → SilentWay (machineOf c r z) p start b
+      → Position z p b
       → effect c r p b (rule h) ≡ carried passed failed
-      → Fails c r rule h (record { point = p; configuration = b; q = q }))
+      → Fails c r z rule h (record { point = p; configuration = b; q = q }))
       → (n : ℕ) (a : Configuration) (q : ℕ) (h : List ℕ)
-      → Way (machineOf c r) p start a
-      → Position c r p a
-      → sizesOf c r .joint * sizesOf c r .ways ≤ n + q
-      → Fails c r rule h (record { point = p; configuration = a; q = q })
+      → SilentWay (machineOf c r z) p start a
+      → Position z p a
+      → z .joint * z .ways ≤ n + q
+      → Fails c r z rule h (record { point = p; configuration = a; q = q })
   unfolding leaves isMove
-  chase p start some carry zero a q h way valid room = idle-fails c r rule h _ (omega arith)
+  chase p start some carry zero a q h way valid room = idle-fails c r z rule h _ (omega arith)
   chase p start some carry (suc n) a q h way valid room =
-      decide (λ b e. chase p start some carry n b (suc q) (1 ∷ h) (then (rule h) way e) (laws c r ok fine .silent-valid p a b (rule h) valid e) (omega arith))
+      decide
+      (λ b e. chase p start some carry n b (suc q) (1 ∷ h) (then (rule h) way e)
+      (laws c r z K .silent-valid p a b (rule h) valid e) (omega arith))
       (effect c r p a (rule h)) refl
     where
       follows :
           (b : Configuration)
           → effect c r p a (rule h) ≡ silent b
-          → Fails c r rule (1 ∷ h) (record { point = p; configuration = b; q = suc q })
-          → Fails c r rule h (record { point = p; configuration = a; q = q })
+          → Fails c r z rule (1 ∷ h) (record { point = p; configuration = b; q = suc q })
+          → Fails c r z rule h (record { point = p; configuration = a; q = q })
       follows b move later =
           let quiet = read-silent c r p a (rule h) move .kind in
           report-fails h _ (record { point = p; configuration = b; q = suc q }) 1 (omega arith) valid some (is-open c r p a (rule h) (silent b) move)
           (leads-silent r p (rule h) 1 quiet) (makes-is c r p a (rule h) (silent b) move 1) (rw (ne-eqb (entryKind (rule h)) 3 quiet) (omega arith)) later
 
       decide :
-          ((b : Configuration) → effect c r p a (rule h) ≡ silent b → Fails c r rule (1 ∷ h) (record { point = p; configuration = b; q = suc q }))
+          ((b : Configuration) → effect c r p a (rule h) ≡ silent b → Fails c r z rule (1 ∷ h) (record { point = p; configuration = b; q = suc q }))
           → (f : Effect Configuration)
           → effect c r p a (rule h) ≡ f
-          → Fails c r rule h (record { point = p; configuration = a; q = q })
-      decide on shut e = shut-fails c r rule h _ (is .open-is _ (rule h) ∙ is-open c r p a (rule h) shut e)
+          → Fails c r z rule h (record { point = p; configuration = a; q = q })
+      decide on shut e = shut-fails c r z rule h _ (is .open-is _ (rule h) ∙ is-open c r p a (rule h) shut e)
       decide on (silent b) e = follows b e (on b e)
       decide on (carried passed failed) e = carry a passed failed q h way valid e
       decide on ended e = absurd (some (read-ended c r p a (rule h) e .done))
 
   lost-fails :
       (p : ℕ) (a : Configuration) (h : List ℕ)
-      → Position c r p a
-      → Lost (machineOf c r) p a
-      → Fails c r rule h (opened p a)
+      → Position z p a
+      → Lost (machineOf c r z) p a
+      → Fails c r z rule h (opened p a)
   unfolding opened leaves isMove
   lost-fails p a h valid (lost some outcome later) =
       chase p a (λ done. some (kind-finish r p done))
       (λ b passed failed q g way there e.
       let o : Bool = outcome b passed failed (rule g) way e in
       carry o b passed failed q g there e
-      (lost-fails (goes (kindIn r p) p o) (cond o passed failed) (cond o 1 0 ∷ g) (laws c r ok fine .carried-valid p b passed failed (rule g) o there e) (later b passed failed (rule g) way e)))
-      (sizesOf c r .joint * sizesOf c r .ways) a 0 h (here refl) valid (omega arith)
+      (lost-fails (goes (kindIn r p) p o) (cond o passed failed) (cond o 1 0 ∷ g)
+      (laws c r z K .carried-valid p b passed failed (rule g) o there e)
+      (later b passed failed (rule g) way e)))
+      (z .joint * z .ways) a 0 h (here refl) valid (omega arith)
     where
       carry :
           (o : Bool) (b passed failed : Configuration) (q : ℕ) (g : List ℕ)
-          → Position c r p b
+          → Position z p b
           → effect c r p b (rule g) ≡ carried passed failed
-          → Fails c r rule (cond o 1 0 ∷ g) (record { point = goes (kindIn r p) p o; configuration = cond o passed failed; q = 0 })
-          → Fails c r rule g (record { point = p; configuration = b; q = q })
+          → Fails c r z rule (cond o 1 0 ∷ g) (record { point = goes (kindIn r p) p o; configuration = cond o passed failed; q = 0 })
+          → Fails c r z rule g (record { point = p; configuration = b; q = q })
       carry o b passed failed q g there move next =
           let is-carry = read-carried c r p b (rule g) move in
-          report-fails g _ (record { point = goes (kindIn r p) p o; configuration = cond o passed failed; q = 0 }) (cond o 1 0) (low o) there (is-carry .some) (is-open c r p b (rule g) (carried passed failed) move)
-          (sym (goes-leads r p (rule g) (is-carry .some) (is-carry .kind) o)) (makes-is c r p b (rule g) (carried passed failed) move (cond o 1 0) ∙ same o) (rw (is-carry .kind)) next
+          report-fails g _ (record { point = goes (kindIn r p) p o; configuration = cond o passed failed; q = 0 })
+          (cond o 1 0) (low o) there (is-carry .some) (is-open c r p b (rule g) (carried passed failed) move)
+          (sym (goes-leads r p (rule g) (is-carry .some) (is-carry .kind) o))
+          (makes-is c r p b (rule g) (carried passed failed) move (cond o 1 0) ∙ same o) (rw (is-carry .kind)) next
         where
           low : (o : Bool) → cond o 1 0 ≤ 1
           low true = omega arith
@@ -180,15 +186,14 @@ module _ (c : Cell) (r : Recipe) (ok : checkCell c ≡ Accepted) (fine : checkRe
           same false = refl
 
 pub lost-rule-breaks :
-    (c : Cell) (r : Recipe)
-    → checkCell c ≡ Accepted
-    → checkRecipe r ≡ Accepted
-    → BookIs c r
+    (c : Cell) (r : Recipe) (z : Sizes)
+    → Checked c r z
+    → BookIs c r z
     → (p : ℕ) (a : Configuration)
-    → Position c r p a
-    → Lost (machineOf c r) p a
+    → Position z p a
+    → Lost (machineOf c r z) p a
     → (rule : Rule)
-    → Breaks c r p a rule
-lost-rule-breaks c r ok fine is p a valid gone rule =
-    let found : Fails c r rule [] (opened p a) = lost-fails c r ok fine is rule p a [] valid gone in
+    → Breaks c r z p a rule
+lost-rule-breaks c r z K is p a valid gone rule =
+    let found : Fails c r z rule [] (opened p a) = lost-fails c r z K is rule p a [] valid gone in
     record { calls = found .calls; broken = λ kept. found .broken (kept .never-shut) (kept .silent-few) }

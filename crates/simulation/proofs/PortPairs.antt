@@ -19,30 +19,30 @@ use Rattle.steps.proofs.ReadyLines.{both, line-is, arg-low, may-low, step-may}
 use Rattle.steps.proofs.PortCounts.{of-two}
 
 -- a number below n that passes
-pub record Found (f : ℕ → Bool) (n : ℕ) : Type 0 where
+pub record Passing (f : ℕ → Bool) (n : ℕ) : Type 0 where
   pub at : ℕ
   pub low : at < n
   pub holds : f at ≡ true
 
 -- what it says of the numbers that pass how many they are
 module _ (f : ℕ → Bool) where
-  found : (n : ℕ) → 1 ≤ countBelow f n → Found f n
+  found : (n : ℕ) → 1 ≤ countBelow f n → Passing f n
   unfolding countBelow
   found zero some = absurd (omega arith)
   found (suc n) some = decide (found n) (f n) refl some
     where
       decide :
-          (1 ≤ countBelow f n → Found f n)
+          (1 ≤ countBelow f n → Passing f n)
           → (b : Bool)
           → f n ≡ b
           → 1 ≤ cond b (suc (countBelow f n)) (countBelow f n)
-          → Found f (suc n)
+          → Passing f (suc n)
       decide earlier true here more = record { at = n; low = omega arith; holds = here }
       decide earlier false here more =
-          let before : Found f n = earlier more in
+          let before : Passing f n = earlier more in
           record { at = before .at; low = omega arith; holds = before .holds }
 
-  counted : (n : ℕ) → Found f n → 1 ≤ countBelow f n
+  counted : (n : ℕ) → Passing f n → 1 ≤ countBelow f n
   counted n one = count-many f (λ j. one .at) n 1 (λ j less. one .low) (λ j less. one .holds) (λ i j less most same. omega arith)
 
   same-one : (n i j : ℕ) → countBelow f n ≤ 1 → i < n → j < n → f i ≡ true → f j ≡ true → i ≡ j
@@ -57,7 +57,9 @@ module _ (f : ℕ → Bool) where
       decide : (b : Bool) → eqb i j ≡ b → i ≡ j
       decide true e = eqb-true i j e
       decide false e =
-          let two : 2 ≤ countBelow f n = count-many f (λ u. cond (eqb u 0) i j) n 2 (of-two (λ u. cond (eqb u 0) i j < n) i-low j-low) (of-two (λ u. f (cond (eqb u 0) i j) ≡ true) i-holds j-holds) (differ (eqb-false i j e)) in
+          let two : 2 ≤ countBelow f n =
+          count-many f (λ u. cond (eqb u 0) i j) n 2 (of-two (λ u. cond (eqb u 0) i j < n) i-low j-low)
+          (of-two (λ u. f (cond (eqb u 0) i j) ≡ true) i-holds j-holds) (differ (eqb-false i j e)) in
           absurd (omega arith)
 
   few : (n : ℕ) → ((i j : ℕ) → i < n → j < n → f i ≡ true → f j ≡ true → i ≡ j) → countBelow f n ≤ 1
@@ -84,8 +86,8 @@ alike (suc s) t s-most t-most there back = omega (arith, there (omega arith))
 
 -- "For each port, there is no in and no out, or one of each."
 pub record Paired (c : Cell) (x : Choice) : Type 0 where
-  pub in-for : (port k : ℕ) → k < 6 → actsOn c 3 port (x k) ≡ true → Found (λ i. actsOn c 2 port (x i)) 6
-  pub out-for : (port i : ℕ) → i < 6 → actsOn c 2 port (x i) ≡ true → Found (λ k. actsOn c 3 port (x k)) 6
+  pub in-for : (port k : ℕ) → k < 6 → actsOn c 3 port (x k) ≡ true → Passing (λ i. actsOn c 2 port (x i)) 6
+  pub out-for : (port i : ℕ) → i < 6 → actsOn c 2 port (x i) ≡ true → Passing (λ k. actsOn c 3 port (x k)) 6
   pub in-one : (port i j : ℕ) → i < 6 → j < 6 → actsOn c 2 port (x i) ≡ true → actsOn c 2 port (x j) ≡ true → i ≡ j
   pub out-one : (port i j : ℕ) → i < 6 → j < 6 → actsOn c 3 port (x i) ≡ true → actsOn c 3 port (x j) ≡ true → i ≡ j
 
@@ -101,8 +103,12 @@ module _ (c : Cell) (x : Choice) where
           let outs : ℕ → Bool = λ k. actsOn c 3 port (x k) in
           let in-few : countBelow ins 6 ≤ 1 = few ins 6 (paired .in-one port) in
           let out-few : countBelow outs 6 ≤ 1 = few outs 6 (paired .out-one port) in
-          let out-there : 1 ≤ countBelow ins 6 → 1 ≤ countBelow outs 6 = λ some. counted outs 6 (let one = found ins 6 some in paired .out-for port (one .at) (one .low) (one .holds)) in
-          let in-there : 1 ≤ countBelow outs 6 → 1 ≤ countBelow ins 6 = λ some. counted ins 6 (let one = found outs 6 some in paired .in-for port (one .at) (one .low) (one .holds)) in
+          let out-there : 1 ≤ countBelow ins 6 → 1 ≤ countBelow outs 6 =
+          λ some. counted outs 6
+          (let one = found ins 6 some in paired .out-for port (one .at) (one .low) (one .holds)) in
+          let in-there : 1 ≤ countBelow outs 6 → 1 ≤ countBelow ins 6 =
+          λ some. counted ins 6
+          (let one = found outs 6 some in paired .in-for port (one .at) (one .low) (one .holds)) in
           both _ _ (eq-eqb _ _ (alike (countBelow ins 6) (countBelow outs 6) in-few out-few out-there in-there)) (le-leb _ _ out-few)
 
   -- the receiver takes the in
@@ -149,10 +155,20 @@ module _ (c : Cell) (x : Choice) where
         record {
           in-for = λ port k low here.
               let inside : port < 64 = port-low 3 port k low here in
-              found (λ i. actsOn c 2 port (x i)) 6 (omega (arith, same-many port inside, counted (λ i. actsOn c 3 port (x i)) 6 (record { at = k; low = low; holds = here })));
+              found (λ i. actsOn c 2 port (x i)) 6
+              (omega (
+                arith,
+                same-many port inside,
+                counted (λ i. actsOn c 3 port (x i)) 6 (record { at = k; low = low; holds = here }),
+              ));
           out-for = λ port i low here.
               let inside : port < 64 = port-low 2 port i low here in
-              found (λ k. actsOn c 3 port (x k)) 6 (omega (arith, same-many port inside, counted (λ k. actsOn c 2 port (x k)) 6 (record { at = i; low = low; holds = here })));
+              found (λ k. actsOn c 3 port (x k)) 6
+              (omega (
+                arith,
+                same-many port inside,
+                counted (λ k. actsOn c 2 port (x k)) 6 (record { at = i; low = low; holds = here }),
+              ));
           in-one = λ port i j i-low j-low i-here j-here.
               let inside : port < 64 = port-low 2 port i i-low i-here in
               same-one (λ k. actsOn c 2 port (x k)) 6 i j (omega (arith, same-many port inside, few-out port inside)) i-low j-low i-here j-here;

@@ -6,7 +6,7 @@ use mathlib.Core.Bool.{Bool, cond}
 use Prim.Native.Nat.{ℕ, zero, suc, _<_, _≤_}
 use native.Mathlib.Omega.{arith}
 use Rattle.steps.specs.Effect.{silent, carried}
-use Rattle.simulation.proofs.Machine.{finish, Machine, goes, Laws, Way, here, then, Lost, lost}
+use Rattle.simulation.proofs.Machine.{finish, Machine, goes, Laws, SilentWay, here, then, Lost, lost}
 use Rattle.simulation.proofs.LostNeverHeld.{way-valid}
 
 -- an outcome at which a carry leads to a stage above 0 and below n
@@ -31,7 +31,7 @@ pub record Stages (𝓒 : Machine) (stage : 𝓒 .Point → 𝓒 .Conf → ℕ) 
       → Falls 𝓒 stage p d e (stage p a)
 
 module _ {𝓒 : Machine} {stage : 𝓒 .Point → 𝓒 .Conf → ℕ} (L : Laws 𝓒) (G : Stages 𝓒 stage) where
-  way-staged : {p : 𝓒 .Point} {a b : 𝓒 .Conf} → 𝓒 .Valid p a → 0 < stage p a → Way 𝓒 p a b → (0 < stage p b) × (stage p b ≤ stage p a)
+  way-staged : {p : 𝓒 .Point} {a b : 𝓒 .Conf} → 𝓒 .Valid p a → 0 < stage p a → SilentWay 𝓒 p a b → (0 < stage p b) × (stage p b ≤ stage p a)
   way-staged v h (here e) = rw e (h, omega arith)
   way-staged v h (then m w e) =
       let i = way-staged v h w in
@@ -42,7 +42,7 @@ module _ {𝓒 : Machine} {stage : 𝓒 .Point → 𝓒 .Conf → ℕ} (L : Laws
       {p : 𝓒 .Point} {a b d e : 𝓒 .Conf} {m : 𝓒 .Move}
       → 𝓒 .Valid p a
       → 0 < stage p a
-      → Way 𝓒 p a b
+      → SilentWay 𝓒 p a b
       → 𝓒 .effect p b m ≡ carried d e
       → Falls 𝓒 stage p d e (stage p a)
   way-falls v h w k =

@@ -88,11 +88,27 @@ module _ (c : Cell) (x : Choice) (paired : Paired c x) (s : ℕ → Bool) (close
         in-for = λ port k low here.
             let own = part-acts x s k c 3 port here in
             let one = paired .in-for port k low (own .1) in
-            record { at = one .at; low = one .low; holds = rw (part-in x s (one .at) (sym (closed port k (one .at) low (one .low) (own .1) (one .holds)) ∙ own .0)) (one .holds) };
+            record {
+              at =
+                  one .at;
+              low =
+                  one .low;
+              holds =
+                  rw (part-in x s (one .at) (sym (closed port k (one .at) low (one .low) (own .1) (one .holds)) ∙ own .0))
+                  (one .holds);
+            };
         out-for = λ port i low here.
             let own = part-acts x s i c 2 port here in
             let one = paired .out-for port i low (own .1) in
-            record { at = one .at; low = one .low; holds = rw (part-in x s (one .at) (closed port (one .at) i (one .low) low (one .holds) (own .1) ∙ own .0)) (one .holds) };
+            record {
+              at =
+                  one .at;
+              low =
+                  one .low;
+              holds =
+                  rw (part-in x s (one .at) (closed port (one .at) i (one .low) low (one .holds) (own .1) ∙ own .0))
+                  (one .holds);
+            };
         in-one = λ port i j i-low j-low i-here j-here.
             paired .in-one port i j i-low j-low (part-acts x s i c 2 port i-here .1) (part-acts x s j c 2 port j-here .1);
         out-one = λ port i j i-low j-low i-here j-here.
@@ -122,7 +138,10 @@ module _ (c : Cell) (x : Choice) (paired : Paired c x) (s : ℕ → Bool) (close
             is = rw (e, out) (ap suc (receives c x paired (argOf c l) (one .at) (one .low) (one .holds)));
             same = same;
             part-does = λ here.
-                rw (part-in x s k here, e, out) (ap suc (receives c (part x s) part-paired (argOf c l) (one .at) (one .low) (rw (part-in x s (one .at) (sym same ∙ here)) (one .holds))));
+                rw (part-in x s k here, e, out)
+                (ap suc
+                (receives c (part x s) part-paired (argOf c l) (one .at) (one .low)
+                (rw (part-in x s (one .at) (sym same ∙ here)) (one .holds))));
           }
       over l e false out =
           record { at = k; low = low; is = rw (e, out); same = refl; part-does = λ here. rw (part-in x s k here, e, out) }
@@ -181,7 +200,8 @@ module _
     pub rest-step : isStep c (after c (part x s) a) (rest x s) ≡ true
     unfolding isStep rest mayDo stateAfter
     rest-step =
-        both _ _ (all-by (λ k. mayDo c (after c (part x s) a) k (rest x s k)) 6 (λ k low. each k low (s k) refl)) (paired-fits c (rest x s) (part-paired c x paired (λ k. not (s k)) others-closed))
+        both _ _ (all-by (λ k. mayDo c (after c (part x s) a) k (rest x s k)) 6 (λ k low. each k low (s k) refl))
+        (paired-fits c (rest x s) (part-paired c x paired (λ k. not (s k)) others-closed))
       where
         each : (k : ℕ) → k < 6 → (b : Bool) → s k ≡ b → mayDo c (after c (part x s) a) k (rest x s k) ≡ true
         each k low true e = rw (rest-in x s k e)
@@ -204,7 +224,8 @@ module _
         decide : (b : Bool) → s k ≡ b → placeAfter c (rest x s) (placeAfter c (part x s) (suc k)) ≡ placeAfter c x (suc k)
         decide true e =
             let there = lands c x paired s closed k most in
-            let kept : placeAfter c (rest x s) (suc (there .at)) ≡ suc (there .at) = part-keeps c x (λ k. not (s k)) (there .at) (negated s (there .at) (sym (there .same) ∙ e)) in
+            let kept : placeAfter c (rest x s) (suc (there .at)) ≡ suc (there .at) =
+            part-keeps c x (λ k. not (s k)) (there .at) (negated s (there .at) (sym (there .same) ∙ e)) in
             ap (placeAfter c (rest x s)) (there .part-does e) ∙ kept ∙ sym (there .is)
         decide false e =
             let there = lands c x paired (λ k. not (s k)) others-closed k most in
@@ -215,5 +236,9 @@ module _
     unfolding after
     parted-after most =
         join
-        (tabulate-same (λ k. stateAfter c (rest x s k) (stateOf (after c (part x s) a) k)) (λ k. stateAfter c (x k) (stateOf a k)) 6 (λ k low. ap (stateAfter c (rest x s k)) (after-state k low) ∙ states-parted k (stateOf a k)))
-        (tabulate-same (λ q. placeAfter c (rest x s) (placeOf (after c (part x s) a) q)) (λ q. placeAfter c x (placeOf a q)) 8 (λ q low. ap (placeAfter c (rest x s)) (after-place q low) ∙ places-parted (placeOf a q) (most q low)))
+        (tabulate-same (λ k. stateAfter c (rest x s k) (stateOf (after c (part x s) a) k))
+        (λ k. stateAfter c (x k) (stateOf a k)) 6
+        (λ k low. ap (stateAfter c (rest x s k)) (after-state k low) ∙ states-parted k (stateOf a k)))
+        (tabulate-same (λ q. placeAfter c (rest x s) (placeOf (after c (part x s) a) q))
+        (λ q. placeAfter c x (placeOf a q)) 8
+        (λ q low. ap (placeAfter c (rest x s)) (after-place q low) ∙ places-parted (placeOf a q) (most q low)))

@@ -15,9 +15,9 @@ use Rattle.cell.specs.declared.Cell.{Cell}
 use Rattle.cell.specs.Rules.{checkCell}
 use Rattle.cell.proofs.AcceptedRecord.{each-accepts, line-in-range}
 use Rattle.recipe.specs.declared.Recipe.{Recipe}
-use Rattle.recipe.specs.Rules.{checkRecipe}
 use Rattle.positions.specs.declared.Configuration.{Configuration}
-use Rattle.positions.specs.Sizes.{pointsOf, partsOf}
+use Rattle.positions.specs.declared.Sizes.{Sizes}
+use Rattle.positions.specs.Checked.{Checked}
 use Rattle.steps.specs.Lines.{actOf, argOf, stateOf, placeOf, kindOf, thenOf, elseOf}
 use Rattle.steps.specs.Joint.{Choice, rests, takes, acts, actsOn, isStep, isSilent, isSilentStep, stateAfter, handed, placeAfter, after}
 use Rattle.steps.specs.Carry.{carries, afterCarry}
@@ -26,9 +26,9 @@ use Rattle.steps.proofs.PointLines.{PointLines, point-lines}
 use Rattle.steps.proofs.ReadyLines.{both, may-low, step-may}
 use Rattle.steps.proofs.SilentEntries.{internal-entry, transfer-entry}
 use Rattle.steps.proofs.CarryEntries.{CarryFor, carry-entry}
-use Rattle.steps.proofs.MovesStayInRange.{position-range, places-most}
 use Rattle.steps.proofs.MadeConfiguration.{join}
 use Rattle.simulation.specs.Simulation.{Position}
+use Rattle.simulation.proofs.CellMachine.{position-point, position-places}
 use Rattle.simulation.proofs.PortPairs.{Paired, step-paired}
 use Rattle.simulation.proofs.StepInParts.{part, rest, Closed, part-out, part-rests, rest-in, rest-out, part-silent, part-step, rest-step, parted-after}
 use Rattle.simulation.proofs.CarryInParts.{NoOperation, carry-part-step, carry-part-silent, rest-carries, parted-carry}
@@ -91,7 +91,9 @@ taken c x act port k here = decide (x k) refl
 -- all but an internal line's resource, and all but the two of an out and its in, are port-closed
 module _ (c : Cell) (x : Choice) where
   closed-one : (k l : ℕ) → x k ≡ takes l → actOf c l ≡ 0 → Closed c x (allBut k k)
-  closed-one k l chosen internal port n m n-low m-low out into = but-other k k n (other n 3 out (omega arith)) (other n 3 out (omega arith)) ∙ sym (but-other k k m (other m 2 into (omega arith)) (other m 2 into (omega arith)))
+  closed-one k l chosen internal port n m n-low m-low out into =
+      but-other k k n (other n 3 out (omega arith)) (other n 3 out (omega arith))
+      ∙ sym (but-other k k m (other m 2 into (omega arith)) (other m 2 into (omega arith)))
     where
       other : (n act : ℕ) → actsOn c act port (x n) ≡ true → 0 < act → n ≡ k → ⊥
       other n act here more e = omega (arith, its-act c x n l (ap x e ∙ chosen) act port here)
@@ -145,9 +147,10 @@ rested c a x six eight most quiet =
     still zero low = refl
     still (suc k) low = rw (quiet k low)
 
-module _ (c : Cell) (r : Recipe) (p : ℕ) (ok : checkCell c ≡ Accepted) (fine : checkRecipe r ≡ Accepted) (some : kindOf r p ≡ 0 → ⊥) (a : Configuration) (here : Position c r p a) where
-  most : (b : Configuration) → Position c r p b → (q : ℕ) → q < 8 → placeOf b q ≤ 6
-  most b there = places-most c (pointsOf r) (partsOf r) p b ok (there .in-range)
+module _ (c : Cell) (r : Recipe) (p : ℕ) (z : Sizes) (K : Checked c r z) (some : kindOf r p ≡ 0 → ⊥) (a : Configuration)
+    (here : Position z p a) where
+  ok : checkCell c ≡ Accepted
+  ok = K .cell-passes
 
   -- a path to where all but one line, or all but two, are taken goes on with those
   module _ (x : Choice) (step : isStep c a x ≡ true) where
@@ -162,13 +165,15 @@ module _ (c : Cell) (r : Recipe) (p : ℕ) (ok : checkCell c ≡ Accepted) (fine
         let s : ℕ → Bool = allBut k k in
         let closed : Closed c x s = closed-one c x k l chosen internal in
         let b : Configuration = after c (part x s) a in
-        let mid : Position c r p b = singly-stays c r p ok fine here path in
+        let mid : Position z p b = singly-stays c r p z K here path in
         let takes-it : rest x s k ≡ takes l = rest-out x s k (but-first k k) ∙ chosen in
         let others : (i : ℕ) → i < 6 → (i ≡ k → ⊥) → rest x s i ≡ rests = λ i less ne. rest-in x s i (but-other k k i ne ne) in
         let may : isStep c b (rest x s) ≡ true = rest-step c ok a x step s closed in
         let does : effect c r p b (16777216 + l) ≡ silent (after c (rest x s) b) =
-        internal-entry c r p b (rest x s) ok may some (mid .six) (mid .eight) (most b mid) k l low takes-it internal others in
-        move path (record { entry = 16777216 + l; does = does ∙ ap silent (parted-after c ok a x step s closed (most a here)) })
+        internal-entry c r p b (rest x s) ok may some (mid .six) (mid .eight) (position-places c r z K p b mid)
+        k l low takes-it internal others in
+        move path
+        (record { entry = 16777216 + l; does = does ∙ ap silent (parted-after c ok a x step s closed (position-places c r z K p a here)) })
 
     last-two :
         (port k i : ℕ)
@@ -185,14 +190,20 @@ module _ (c : Cell) (r : Recipe) (p : ℕ) (ok : checkCell c ≡ Accepted) (fine
         let s : ℕ → Bool = allBut k i in
         let closed : Closed c x s = closed-two c x paired port k i k-low i-low out into in
         let b : Configuration = after c (part x s) a in
-        let mid : Position c r p b = singly-stays c r p ok fine here path in
+        let mid : Position z p b = singly-stays c r p z K here path in
         let sends : rest x s k ≡ takes (send .line) = rest-out x s k (but-first k i) ∙ send .chosen in
         let gets : rest x s i ≡ takes (get .line) = rest-out x s i (but-second k i) ∙ get .chosen in
         let others : (n : ℕ) → n < 6 → (n ≡ k → ⊥) → (n ≡ i → ⊥) → rest x s n ≡ rests = λ n less k-not i-not. rest-in x s n (but-other k i n k-not i-not) in
         let may : isStep c b (rest x s) ≡ true = rest-step c ok a x step s closed in
         let does : effect c r p b (33554432 + send .line + 64 * get .line) ≡ silent (after c (rest x s) b) =
-        transfer-entry c r p b (rest x s) ok may some (mid .six) (mid .eight) (most b mid) k i (send .line) (get .line) k-low i-low sends gets (send .acted) (get .acted) others in
-        move path (record { entry = 33554432 + send .line + 64 * get .line; does = does ∙ ap silent (parted-after c ok a x step s closed (most a here)) })
+        transfer-entry c r p b (rest x s) ok may some (mid .six) (mid .eight) (position-places c r z K p b mid)
+        k i (send .line) (get .line) k-low i-low sends gets
+        (send .acted) (get .acted) others in
+        move path
+        (record {
+          entry = 33554432 + send .line + 64 * get .line;
+          does = does ∙ ap silent (parted-after c ok a x step s closed (position-places c r z K p a here));
+        })
 
   no-operation : (x : Choice) → isSilent c x ≡ true → (k : ℕ) → k < 6 → acts c 1 (x k) ≡ false
   unfolding isSilent
@@ -209,7 +220,8 @@ module _ (c : Cell) (r : Recipe) (p : ℕ) (ok : checkCell c ≡ Accepted) (fine
 
   split : (n : ℕ) → n ≤ 6 → Splits n
   unfolding acts
-  split zero few x quiet step none = stay (rested c a x (here .six) (here .eight) (most a here) (λ k low. quiet k (omega arith) low))
+  split zero few x quiet step none =
+      stay (rested c a x (here .six) (here .eight) (position-places c r z K p a here) (λ k low. quiet k (omega arith) low))
   split (suc n) few x quiet step none = decide (split n (omega arith)) (x n) refl
     where
       low : n < 6
@@ -224,7 +236,8 @@ module _ (c : Cell) (r : Recipe) (p : ℕ) (ok : checkCell c ≡ Accepted) (fine
 
       before : Splits n → (s : ℕ → Bool) → s n ≡ false → Closed c x s → Singly c r p a (after c (part x s) a)
       before earlier s out closed =
-          earlier (part x s) (onward (part x s) (part-out x s n out) (λ k e. part-rests x s k e)) (part-step c ok a x step s closed) (part-silent c x s (λ k less e. no-operation x none k less))
+          earlier (part x s) (onward (part x s) (part-out x s n out) (λ k e. part-rests x s k e))
+          (part-step c ok a x step s closed) (part-silent c x s (λ k less e. no-operation x none k less))
 
       by-act : Splits n → (l : ℕ) → x n ≡ takes l → (act : ℕ) → actOf c l ≡ act → act ≤ 3 → Singly c r p a (after c x a)
       by-act earlier l e zero is few = last-one x step n l low e is (before earlier (allBut n n) (but-first n n) (closed-one c x n l e is))
@@ -233,12 +246,16 @@ module _ (c : Cell) (r : Recipe) (p : ℕ) (ok : checkCell c ≡ Accepted) (fine
           let paired : Paired c x = step-paired c x ok a step in
           let into : actsOn c 2 (argOf c l) (x n) ≡ true = acts-so c x n l e 2 is in
           let one = paired .out-for (argOf c l) n low into in
-          last-two x step (argOf c l) (one .at) n (one .low) low (one .holds) into (before earlier (allBut (one .at) n) (but-second (one .at) n) (closed-two c x paired (argOf c l) (one .at) n (one .low) low (one .holds) into))
+          last-two x step (argOf c l) (one .at) n (one .low) low (one .holds) into
+          (before earlier (allBut (one .at) n) (but-second (one .at) n)
+          (closed-two c x paired (argOf c l) (one .at) n (one .low) low (one .holds) into))
       by-act earlier l e (suc (suc (suc zero))) is few =
           let paired : Paired c x = step-paired c x ok a step in
           let out : actsOn c 3 (argOf c l) (x n) ≡ true = acts-so c x n l e 3 is in
           let one = paired .in-for (argOf c l) n low out in
-          last-two x step (argOf c l) n (one .at) low (one .low) out (one .holds) (before earlier (allBut n (one .at)) (but-first n (one .at)) (closed-two c x paired (argOf c l) n (one .at) low (one .low) out (one .holds)))
+          last-two x step (argOf c l) n (one .at) low (one .low) out (one .holds)
+          (before earlier (allBut n (one .at)) (but-first n (one .at))
+          (closed-two c x paired (argOf c l) n (one .at) low (one .low) out (one .holds)))
       by-act earlier l e (suc (suc (suc (suc act)))) is few = absurd (omega arith)
 
       decide : Splits n → (u : ℕ) → x n ≡ u → Singly c r p a (after c x a)
@@ -248,11 +265,11 @@ module _ (c : Cell) (r : Recipe) (p : ℕ) (ok : checkCell c ≡ Accepted) (fine
 
   -- a silent joint step is a path of single moves
   pub silent-split : (x : Choice) → isSilentStep c a x ≡ true → Singly c r p a (after c x a)
-  unfolding isSilentStep
+  unfolding isSilentStep isSilent
   silent-split x step = split 6 (omega arith) x (λ k least less. absurd (omega arith)) (and-left _ _ step) (and-right (isStep c a x) _ step)
 
-  pub silent-stays : (x : Choice) → isSilentStep c a x ≡ true → Position c r p (after c x a)
-  silent-stays x step = singly-stays c r p ok fine here (silent-split x step)
+  pub silent-stays : (x : Choice) → isSilentStep c a x ≡ true → Position z p (after c x a)
+  silent-stays x step = singly-stays c r p z K here (silent-split x step)
 
 -- some single moves, perhaps none, and a carry lead from a to b at outcome 1 and to d at outcome 0
 pub record SingleLeads (c : Cell) (r : Recipe) (p : ℕ) (a b d : Configuration) : Type 0 where
@@ -297,38 +314,41 @@ calm-rest c x k l chosen = decide (acts c 1 (x k)) refl
         absurd (omega arith)
 
 module _
-    (c : Cell) (r : Recipe) (p : ℕ) (ok : checkCell c ≡ Accepted) (fine : checkRecipe r ≡ Accepted) (some : kindOf r p ≡ 0 → ⊥)
-    (a : Configuration) (here : Position c r p a)
+    (c : Cell) (r : Recipe) (p : ℕ) (z : Sizes) (K : Checked c r z) (some : kindOf r p ≡ 0 → ⊥)
+    (a : Configuration) (here : Position z p a)
     (x : Choice) (ls : ℕ → ℕ) (carrying : carries c r p x ls a ≡ true)
   where
     -- a joint step that carries the point is a path of single moves and a carry
     pub carry-split : SingleLeads c r p a (afterCarry c r p x ls 1 a) (afterCarry c r p x ls 0 a)
-    unfolding isSilentStep
+    unfolding isSilentStep isSilent
     carry-split =
+        let ok = K .cell-passes in
         let s : ℕ → Bool = calm c x in
         let closed : Closed c x s = calm-closed c x in
         let none : NoOperation c x s = λ k low e. calm-not c x k e in
         let b : Configuration = after c (part x s) a in
-        let path : Singly c r p a b = silent-split c r p ok fine some a here (part x s) (both _ _ (carry-part-step c ok r p a x ls carrying s closed) (carry-part-silent c ok r p a x ls carrying s closed none)) in
-        let mid : Position c r p b = singly-stays c r p ok fine here path in
+        let path : Singly c r p a b =
+        silent-split c r p z K some a here (part x s)
+        (both _ _ (carry-part-step c ok r p a x ls carrying s closed) (carry-part-silent c ok r p a x ls carrying s closed none)) in
+        let mid : Position z p b = singly-stays c r p z K here path in
         let left : carries c r p (rest x s) ls b ≡ true = rest-carries c ok r p a x ls carrying s closed none in
         let alone : (k l : ℕ) → k < 6 → rest x s k ≡ takes l → actOf c l ≡ 1 = λ k l low chosen. calm-rest c x k l chosen in
         let entry : CarryFor c r p b (afterCarry c r p (rest x s) ls 1 b) (afterCarry c r p (rest x s) ls 0 b) =
-        carry-entry c r p b (rest x s) ls ok left (lines .few) alone (mid .six) (mid .eight) (places-most c (pointsOf r) (partsOf r) p b ok (mid .in-range)) in
+        carry-entry c r p b (rest x s) ls ok left (lines .few) alone (mid .six) (mid .eight) (position-places c r z K p b mid) in
         let same : (outcome : ℕ) → afterCarry c r p (rest x s) ls outcome b ≡ afterCarry c r p x ls outcome a =
-        λ outcome. parted-carry c ok r p a x ls carrying s closed none outcome (places-most c (pointsOf r) (partsOf r) p a ok (here .in-range)) in
+        λ outcome. parted-carry c ok r p a x ls carrying s closed none outcome (position-places c r z K p a here) in
         record { before = b; singly = path; carry = record { entry = entry .entry; does = entry .does ∙ (λ i. carried (same 1 i) (same 0 i)) } }
       where
         lines : PointLines r p
-        lines = point-lines r fine p (position-range c (pointsOf r) (partsOf r) p a (here .in-range) .point)
+        lines = point-lines r (K .recipe-passes) p (position-point c r z K p a here)
 
     -- it leads to positions
-    pub carry-stays : Position c r (thenOf r p) (afterCarry c r p x ls 1 a)
+    pub carry-stays : Position z (thenOf r p) (afterCarry c r p x ls 1 a)
     carry-stays =
         let leads = carry-split in
-        carry-then c r p ok fine (leads .before) _ _ (singly-stays c r p ok fine here (leads .singly)) (leads .carry)
+        carry-then c r p z K (leads .before) _ _ (singly-stays c r p z K here (leads .singly)) (leads .carry)
 
-    pub test-stays : kindOf r p ≡ 2 → Position c r (elseOf r p) (afterCarry c r p x ls 0 a)
+    pub test-stays : kindOf r p ≡ 2 → Position z (elseOf r p) (afterCarry c r p x ls 0 a)
     test-stays two =
         let leads = carry-split in
-        carry-else c r p ok fine (leads .before) _ _ (singly-stays c r p ok fine here (leads .singly)) (leads .carry) two
+        carry-else c r p z K (leads .before) _ _ (singly-stays c r p z K here (leads .singly)) (leads .carry) two

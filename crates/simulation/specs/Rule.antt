@@ -4,19 +4,16 @@ use Prim.Native.Nat.{ℕ}
 use Rattle.cell.specs.declared.Cell.{Cell}
 use Rattle.recipe.specs.declared.Recipe.{Recipe}
 use Rattle.positions.specs.declared.Configuration.{Configuration}
+use Rattle.positions.specs.declared.Sizes.{Sizes}
 use Rattle.run.specs.Book.{Call}
-use Rattle.run.specs.Promises.{RuleKeeps}
-
--- "names one for every list of outcomes accepted so far, the empty list too": the latest outcome first
-abbrev pub Rule : Type 0
-Rule = List ℕ → ℕ
+use Rattle.run.specs.Promises.{Rule, RuleKeeps}
 
 -- the rule "breaks one of these for some list"
-pub record Breaks (c : Cell) (r : Recipe) (p : ℕ) (a : Configuration) (rule : Rule) : Type 0 where
+pub record Breaks (c : Cell) (r : Recipe) (z : Sizes) (p : ℕ) (a : Configuration) (rule : Rule) : Type 0 where
   pub calls : List Call
-  pub broken : RuleKeeps c r rule p a calls → ⊥
+  pub broken : RuleKeeps c r z rule p a calls → ⊥
 
 -- a rule that keeps every promise for every list
-pub record Rules (c : Cell) (r : Recipe) (p : ℕ) (a : Configuration) : Type 0 where
+pub record Rules (c : Cell) (r : Recipe) (z : Sizes) (p : ℕ) (a : Configuration) : Type 0 where
   pub rule : Rule
-  pub keeps : (calls : List Call) → RuleKeeps c r rule p a calls
+  pub keeps : (calls : List Call) → RuleKeeps c r z rule p a calls

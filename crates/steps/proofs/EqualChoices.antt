@@ -16,7 +16,7 @@ use Rattle.recipe.specs.declared.Recipe.{Recipe}
 use Rattle.positions.specs.declared.Configuration.{Configuration}
 use Rattle.steps.specs.Lines.{resourceOf, argOf, stateOf, placeOf, firstLineOf, linesOf, lineOf, isTaken}
 use Rattle.steps.specs.Joint.{Choice, mayDo, acts, actsOn, howMany, portFits, isStep, stateAfter, receiver, handed, placeAfter, after}
-use Rattle.steps.specs.Carry.{serves, matches, standsAt, present, carriesDo, carriesTest, carries, putThere, placed, partsMoved, afterCarry}
+use Rattle.steps.specs.Carry.{serves, matches, standsAt, present, carries, putThere, placed, partsMoved, afterCarry}
 use Rattle.steps.specs.Entry.{only}
 use Rattle.steps.proofs.MadeConfiguration.{join}
 
@@ -28,7 +28,10 @@ module _ (c : Cell) (x y : Choice) (same : (k : ℕ) → k < 6 → x k ≡ y k) 
   pub step-agrees : (a : Configuration) → isStep c a x ≡ isStep c a y
   unfolding isStep portFits
   step-agrees a =
-      rw (all-same (λ k. mayDo c a k (x k)) (λ k. mayDo c a k (y k)) 6 (λ k low. rw (same k low)), all-same (portFits c x) (portFits c y) 64 (λ port low. rw (many-agree 2 port, many-agree 3 port)))
+      rw (
+        all-same (λ k. mayDo c a k (x k)) (λ k. mayDo c a k (y k)) 6 (λ k low. rw (same k low)),
+        all-same (portFits c x) (portFits c y) 64 (λ port low. rw (many-agree 2 port, many-agree 3 port)),
+      )
 
   handed-agrees : (k u : ℕ) → handed c x k u ≡ handed c y k u
   unfolding handed receiver
@@ -75,7 +78,10 @@ module _ (c : Cell) (r : Recipe) (p : ℕ) (ls ms : ℕ → ℕ) (same : (j : �
   parts-agree : partsMoved c r p ls a ≡ partsMoved c r p ms a
   unfolding partsMoved placed
   parts-agree =
-      join refl (tabulate-same (λ q. placed c r p ls q (placeOf a q)) (λ q. placed c r p ms q (placeOf a q)) 8 (λ q low. put-agrees (c .resource) (r .gives) (firstLineOf r p) ls ms q (cond (isTaken r p q) 0 (placeOf a q)) (linesOf r p) same))
+      join refl
+      (tabulate-same (λ q. placed c r p ls q (placeOf a q)) (λ q. placed c r p ms q (placeOf a q)) 8
+      (λ q low. put-agrees (c .resource) (r .gives) (firstLineOf r p) ls ms q (cond (isTaken r p q) 0 (placeOf a q))
+      (linesOf r p) same))
 
   module _
       (x y : Choice)
@@ -89,13 +95,18 @@ module _ (c : Cell) (r : Recipe) (p : ℕ) (ls ms : ℕ → ℕ) (same : (j : �
       matches-agrees : matches c r p x ls ≡ matches c r p y ms
       unfolding matches
       matches-agrees =
-          rw (all-same (serves c r p x ls) (serves c r p y ms) (linesOf r p) serves-agrees, all-same (λ j. allBelow (λ i. not (eqb (ls i) (ls j))) j) (λ j. allBelow (λ i. not (eqb (ms i) (ms j))) j) (linesOf r p) differ, count-same (λ k. acts c 1 (x k)) (λ k. acts c 1 (y k)) 6 (λ k low. rw (alike k low)))
+          rw (
+            all-same (serves c r p x ls) (serves c r p y ms) (linesOf r p) serves-agrees,
+            all-same (λ j. allBelow (λ i. not (eqb (ls i) (ls j))) j) (λ j. allBelow (λ i. not (eqb (ms i) (ms j))) j)
+                (linesOf r p) differ,
+            count-same (λ k. acts c 1 (x k)) (λ k. acts c 1 (y k)) 6 (λ k low. rw (alike k low)),
+          )
         where
           differ : (j : ℕ) → j < linesOf r p → allBelow (λ i. not (eqb (ls i) (ls j))) j ≡ allBelow (λ i. not (eqb (ms i) (ms j))) j
           differ j low = all-same (λ i. not (eqb (ls i) (ls j))) (λ i. not (eqb (ms i) (ms j))) j (λ i less. rw (same i (omega arith), same j low))
 
       pub carries-agrees : carries c r p x ls a ≡ carries c r p y ms a
-      unfolding carries carriesDo carriesTest
+      unfolding carries
       carries-agrees = rw (step-agrees c x y alike a, matches-agrees, present-agrees)
 
 pub after-carry-agrees :

@@ -5,10 +5,10 @@
 -- silent moves do not depend on the point (OpenByKind), the code makes what the entry makes (MadeByKind), and moves stay in range
 -- (MovesStayInRange).
 mod LetterDigits
-mod LoopTurns
-mod EntryTests
+pub mod LoopTurns
+pub mod EntryTests
 pub mod MadeConfiguration
-mod MadeByKind
+pub mod MadeByKind
 pub mod PointLines
 pub mod OnlyLines
 pub mod ReadyLines

@@ -13,8 +13,8 @@ use Rattle.refusals.specs.Search.{firstBelow, tabulate}
 use Rattle.refusals.proofs.Scan.{first-same}
 use Rattle.refusals.proofs.TabulatedLists.{length-tabulate, tabulate-at, tabulate-same}
 use Rattle.tables.specs.declared.Column.{Column}
-use Rattle.tables.specs.Lines.{parted, valueLines}
-use Rattle.tables.specs.Numbers.{decimal, fields, numbers}
+use Rattle.tables.specs.Lines.{parted, valueLines, shownLine}
+use Rattle.tables.specs.Numbers.{decimal}
 use Rattle.tables.specs.Table.{numberAt, column}
 use Rattle.tables.specs.Reading.{Kept, keptNumber, within, Ranged}
 
@@ -49,10 +49,10 @@ column-at f j n low = tabulate-at (numberAt f j) 64 n low
 
 -- past the last line there are zeros
 number-past : (f : List ℕ) (j n : ℕ) → length (valueLines f) ≤ n → numberAt f j n ≡ 0
-unfolding numberAt numbers fields parted decimal
+unfolding numberAt shownLine parted decimal
 number-past f j n high = rw (List·getD-eq-default (valueLines f) [] high) (only j)
   where
-    only : (j : ℕ) → _≡_ {A = ℕ} (getD (0 ∷ []) j 0) 0
+    only : (j : ℕ) → decimal 0 (getD ([] ∷ []) j []) ≡ 0
     only zero = refl
     only (suc j) = refl
 
@@ -80,8 +80,17 @@ of-file f store kept lines j least most read fewer few field R =
     let at : (i : ℕ) → i < lines → keptNumber store j i ≡ numberAt f j i = λ i low. kept .number i j (omega arith) (omega arith) field in
     record {
       fewer = R .fewer;
-      lines-are = R .lines-are ∙ first-same (outside store j least most) (λ i. not (within least most (numberAt f j i))) lines (λ i low. ap (λ (n : ℕ). not (within least most n)) (at i low));
-      filled = record { is = R .values-are ∙ ap (λ (l : List ℕ). l ++ drop (read .lines) zeros) (tabulate-same (keptNumber store j) (numberAt f j) (read .lines) (λ i low. at i (omega (arith, R .fewer)))) };
+      lines-are =
+          R .lines-are
+          ∙ first-same (outside store j least most) (λ i. not (within least most (numberAt f j i))) lines
+          (λ i low. ap (λ (n : ℕ). not (within least most n)) (at i low));
+      filled =
+          record {
+            is =
+                R .values-are
+                ∙ ap (λ (l : List ℕ). l ++ drop (read .lines) zeros)
+                (tabulate-same (keptNumber store j) (numberAt f j) (read .lines) (λ i low. at i (omega (arith, R .fewer))));
+          };
     }
 
 filled-all : (f : List ℕ) (j count : ℕ) (l : List ℕ) → count ≤ 64 → count ≡ length (valueLines f) → Filled f j count l → l ≡ column f j

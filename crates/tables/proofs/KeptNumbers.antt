@@ -1,48 +1,62 @@
 -- What rule 2 finds, and the numbers that it keeps. Assumes nothing.
 use mathlib.Core.Path.{_≡_, refl, sym, ap, _∙_}
-use mathlib.Core.Bool.{Bool, true, false, cond}
+use mathlib.Core.Bool.{Bool, true, false, cond, _||_}
 use mathlib.Core.List.{List, [], _∷_, _++_, append-assoc}
 use Prim.Native.Nat.{ℕ, zero, suc, _+_, _*_, _<_, _≤_}
 use native.Mathlib.Decide.{decLt}
 use native.Mathlib.Omega.{arith}
 use lib.Dec.{eqb, ltb}
-use lib.ListN.{length, getD, take, drop, replicate, length-map, length-drop, List·getD-append}
+use lib.ListN.{length, getD, take, drop, replicate, length-map, length-drop, List·getD-append, List·getD-map}
 use lib.Seq.{sets, sets-eq, length-sets, length-take-le, getD-drop, getD-take, getD-append-add}
 use borrow.Author.Tests.{lt-ltb, le-ltb, eqb-true}
 use Rattle.refusals.proofs.Verdicts.{and-left}
 use Rattle.tables.specs.declared.Line.{Line}
 use Rattle.tables.specs.declared.Form.the-variants.{Whole, Broken}
-use Rattle.tables.specs.Lines.{upTo, past, lengthened, parted, ended, lines, valueText, valueLines}
-use Rattle.tables.specs.Numbers.{decimal, fields, isRow, numbers}
+use Rattle.tables.specs.Lines.{lengthened, parted, lines, valueLines, shownLine, extent}
+use Rattle.tables.specs.Numbers.{decimal, isRow}
 use Rattle.tables.specs.Table.{firstBroken, isBroken, numberAt}
-use Rattle.tables.specs.Reading.{lineOf, formOf, seven, keptLine, Kept, FormChecked}
-use Rattle.tables.proofs.TextPieces.{pieces, past-drop, lines-past}
+use Rattle.tables.specs.Reading.{lineOf, breaks, formOf, seven, keptLine, Kept, FormChecked, upTo, past, ended, unended, numbers}
+use Rattle.tables.proofs.TextPieces.{pieces, past-drop, lines-ended, lines-past, unended-past, extent-lines}
+use Rattle.tables.proofs.LineWalk.{value-lines}
 use Rattle.tables.proofs.ValueLines.{Judges, a-row}
 
 -- what rule 2 found
-pub whole : (k : ℕ) (f : List ℕ) (count : ℕ) → Whole count ≡ formOf k f → (isBroken k f ≡ false) × (count ≡ length (valueLines f))
+pub whole : (k : ℕ) (f : List ℕ) (count : ℕ) → Whole count ≡ formOf k f → (breaks k f ≡ false) × (count ≡ length (valueLines f))
 unfolding formOf
-whole k f count e = judge (isBroken k f) refl e
+whole k f count e = judge (breaks k f) refl e
   where
-    judge : (t : Bool) → isBroken k f ≡ t → Whole count ≡ cond t (Broken (firstBroken k (valueLines f))) (Whole (length (valueLines f)))
-        → (isBroken k f ≡ false) × (count ≡ length (valueLines f))
+    judge : (t : Bool) → breaks k f ≡ t → Whole count ≡ cond t (Broken (firstBroken k (valueLines f))) (Whole (length (valueLines f)))
+        → (breaks k f ≡ false) × (count ≡ length (valueLines f))
     judge true p w = let z : _≡_ {A = ℕ} 0 1 = cc in absurd (omega arith)
     judge false p w = (p, cc)
 
-pub broken : (k : ℕ) (f : List ℕ) (n : ℕ) → Broken n ≡ formOf k f → (isBroken k f ≡ true) × (n ≡ firstBroken k (valueLines f))
+pub broken : (k : ℕ) (f : List ℕ) (n : ℕ) → Broken n ≡ formOf k f → (breaks k f ≡ true) × (n ≡ firstBroken k (valueLines f))
 unfolding formOf
-broken k f n e = judge (isBroken k f) refl e
+broken k f n e = judge (breaks k f) refl e
   where
-    judge : (t : Bool) → isBroken k f ≡ t → Broken n ≡ cond t (Broken (firstBroken k (valueLines f))) (Whole (length (valueLines f)))
-        → (isBroken k f ≡ true) × (n ≡ firstBroken k (valueLines f))
+    judge : (t : Bool) → breaks k f ≡ t → Broken n ≡ cond t (Broken (firstBroken k (valueLines f))) (Whole (length (valueLines f)))
+        → (breaks k f ≡ true) × (n ≡ firstBroken k (valueLines f))
     judge true p w = (p, cc)
     judge false p w = let z : _≡_ {A = ℕ} 0 1 = cc in absurd (omega arith)
 
+-- and in a file with a names line that is what the rule asks
+pub breaks-is : (k : ℕ) (f : List ℕ) → length (upTo 10 f) < length f → breaks k f ≡ isBroken k f
+unfolding breaks isBroken
+breaks-is k f named =
+    ap (λ (t : Bool). ltb (firstBroken k (valueLines f)) (length (valueLines f)) || t) (decide (decLt 0 (length (unended (past 10 f)))))
+  where
+    all : extent (lines f) + length (unended (past 10 f)) ≡ length f
+    all = ap (λ (t : List ℕ). extent (lines f) + length t) (sym (unended-past f named)) ∙ extent-lines f
+
+    decide : Dec (0 < length (unended (past 10 f))) → ltb 0 (length (unended (past 10 f))) ≡ ltb (extent (lines f)) (length f)
+    decide (yes some) = lt-ltb 0 (length (unended (past 10 f))) some ∙ sym (lt-ltb (extent (lines f)) (length f) (omega (arith, all)))
+    decide (no none) = le-ltb 0 (length (unended (past 10 f))) (omega arith) ∙ sym (le-ltb (extent (lines f)) (length f) (omega (arith, all)))
+
 -- a file has no more lines than bytes, so a line's number fits where a length does
-lines-few : (s : List ℕ) → length (lines s) ≤ length s
-unfolding lines parted ended lengthened
-lines-few [] = omega arith
-lines-few (b ∷ s) = step (eqb b 10) (lines-few s)
+ended-few : (s : List ℕ) → length (ended (parted 10 s)) ≤ length s
+unfolding parted ended lengthened
+ended-few [] = omega arith
+ended-few (b ∷ s) = step (eqb b 10) (ended-few s)
   where
     same : (q : List (List ℕ)) → length (ended (lengthened b q)) ≡ length (ended q)
     same [] = refl
@@ -52,6 +66,9 @@ lines-few (b ∷ s) = step (eqb b 10) (lines-few s)
     step : (t : Bool) → length (ended (parted 10 s)) ≤ length s → length (ended (cond t ([] ∷ parted 10 s) (lengthened b (parted 10 s)))) ≤ suc (length s)
     step true h = let p = pieces 10 s in rw (p .are) (omega (arith, rw (p .are) at h))
     step false h = omega (arith, same (parted 10 s))
+
+lines-few : (s : List ℕ) → length (lines s) ≤ length s
+lines-few s = rw (lines-ended s) (ended-few s)
 
 first-few : (k : ℕ) (ls : List (List ℕ)) → firstBroken k ls ≤ length ls
 unfolding firstBroken
@@ -63,17 +80,24 @@ first-few k (l ∷ ls) = step (isRow k l) (first-few k ls)
     step false h = omega arith
 
 pub broken-few : (k : ℕ) (f : List ℕ) → firstBroken k (valueLines f) ≤ length f
-unfolding valueLines valueText
-broken-few k f = omega (arith, first-few k (lines (past 10 f)), lines-few (past 10 f), ap length (past-drop 10 f), length-drop (suc (length (upTo 10 f))) f)
+broken-few k f =
+    omega (
+      arith,
+      ap (firstBroken k) (value-lines f),
+      first-few k (lines (past 10 f)),
+      lines-few (past 10 f),
+      ap length (past-drop 10 f),
+      length-drop (suc (length (upTo 10 f))) f,
+    )
 
 row-length : (k : ℕ) (l : List ℕ) → isRow k l ≡ true → length (numbers l) ≡ k
 unfolding isRow numbers
-row-length k l good = length-map (fields l) (decimal 0) ∙ eqb-true (length (fields l)) k (and-left _ _ good)
+row-length k l good = length-map (parted 44 l) (decimal 0) ∙ eqb-true (length (parted 44 l)) k (and-left _ _ good)
 
 -- the line at hand is value line n, and its numbers are the file's
 module _ (k : ℕ) (f : List ℕ) (n at : ℕ) (J : Judges k f n at) (L : Line) (is : L ≡ lineOf k (drop at f)) (some : L .length ≡ 0 → ⊥) (few : k ≤ 7) where
   pub line-number : (j : ℕ) → j < k → getD (L .values) j 0 ≡ numberAt f j n
-  unfolding numberAt
+  unfolding numberAt shownLine numbers decimal
   line-number j less =
       let r = a-row k (drop at f) L is some in
       let l = upTo 10 (drop at f) in
@@ -83,7 +107,8 @@ module _ (k : ℕ) (f : List ℕ) (n at : ℕ) (J : Judges k f n at) (L : Line) 
       let wide : length (numbers l) ≡ k = row-length k l (r .good) in
       ap (λ (vs : List ℕ). getD vs j 0) (r .values-are ∙ sets-eq (numbers l) (replicate 7 0) 0 (omega arith))
       ∙ List·getD-append (numbers l) (drop (0 + length (numbers l)) (replicate 7 0)) 0 j (omega arith)
-      ∙ ap (λ (t : List ℕ). getD (numbers t) j 0) (sym here)
+      ∙ List·getD-map (decimal 0) (parted 44 l) j []
+      ∙ ap (λ (t : List ℕ). decimal 0 (getD (parted 44 t) j [])) (sym here)
 
 -- stores of some values in a row: what stands among them, and what stands before
 stored-in : (l vs : List ℕ) (at j : ℕ) → at + length vs ≤ length l → j < length vs → getD (sets l at vs) (at + j) 0 ≡ getD vs j 0
@@ -129,7 +154,8 @@ kept-more k f n store vs few room K line = record { number = λ i j low small le
     among (suc (suc (suc (suc (suc (suc zero)))))) h = refl
     among (suc (suc (suc (suc (suc (suc (suc j))))))) h = absurd (omega arith)
 
-    place : (i j : ℕ) → i < n + 1 → i < 64 → j < k → Dec (i < n) → Dec (n < 64) → getD (cond (ltb n 64) (sets store (n * 7) (seven vs)) store) (i * 7 + j) 0 ≡ numberAt f j i
+    place : (i j : ℕ) → i < n + 1 → i < 64 → j < k → Dec (i < n) → Dec (n < 64)
+        → getD (cond (ltb n 64) (sets store (n * 7) (seven vs)) store) (i * 7 + j) 0 ≡ numberAt f j i
     place i j low small less (yes before) (yes inside) =
         rw (lt-ltb n 64 inside) (stored-under store (seven vs) (n * 7) (i * 7 + j) (omega arith) (omega arith) ∙ K .number i j before small less)
     place i j low small less (yes before) (no past) = rw (le-ltb n 64 (omega arith)) (K .number i j before small less)

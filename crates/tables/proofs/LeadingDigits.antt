@@ -10,8 +10,9 @@ use lib.Dec.{leb}
 use lib.ListN.{length, getD, drop}
 use lib.Seq.{drop-cons, drop-length}
 use borrow.Author.Tests.{eq-eqb, ne-eqb, le-leb, lt-leb, lt-ltb, le-ltb}
+use Rattle.refusals.specs.Search.{every}
 use Rattle.tables.specs.declared.Number.{Number}
-use Rattle.tables.specs.Numbers.{isDigit, areDigits, isNumber, decimal}
+use Rattle.tables.specs.Numbers.{isDigit, isNumber, decimal}
 use Rattle.tables.specs.Reading.{leading, firstNumber, noNumber, startsField, fieldOf}
 
 pub digit-low : (b : ℕ) → b < 48 → isDigit b ≡ false
@@ -39,12 +40,12 @@ leading-within (b ∷ s) = step (isDigit b) (leading-within s)
     step true h = omega arith
     step false h = omega arith
 
-pub leading-digits : (s : List ℕ) → areDigits (leading s) ≡ true
-unfolding leading areDigits
+pub leading-digits : (s : List ℕ) → every isDigit (leading s) ≡ true
+unfolding leading every
 leading-digits [] = refl
 leading-digits (b ∷ s) = step (isDigit b) refl (leading-digits s)
   where
-    step : (t : Bool) → isDigit b ≡ t → areDigits (leading s) ≡ true → areDigits (cond t (b ∷ leading s) []) ≡ true
+    step : (t : Bool) → isDigit b ≡ t → every isDigit (leading s) ≡ true → every isDigit (cond t (b ∷ leading s) []) ≡ true
     step true e h = rw (e, h)
     step false e h = refl
 
@@ -133,7 +134,7 @@ module _ (s : List ℕ) (i v : ℕ) (R : Read s i v) where
   read-long five low d =
       let c = R .count in
       let long : 5 < length (leading s) = omega (arith, rw (leading-next s i low d) at c) in
-      rw (lt-leb (length (leading s)) 5 long) (shut (areDigits (leading s)) (leb 1 (length (leading s))))
+      rw (lt-leb (length (leading s)) 5 long) (shut (every isDigit (leading s)) (leb 1 (length (leading s))))
     where
       shut : (a b : Bool) → noNumber ≡ cond (a && (b && false)) (record { length = length (leading s); value = decimal 0 (leading s) }) noNumber
       shut true true = refl
@@ -198,7 +199,7 @@ module _ (s : List ℕ) (n : ℕ) (is : n ≡ length (leading s)) where
 -- a number has a digit
 pub number-some : (l : List ℕ) → isNumber l ≡ true → length l ≡ 0 → ⊥
 unfolding isNumber
-number-some l e none = shut (areDigits l) (rw (lt-leb 1 (length l) (omega arith)) at e)
+number-some l e none = shut (every isDigit l) (rw (lt-leb 1 (length l) (omega arith)) at e)
   where
     shut : (t : Bool) → (t && false) ≡ true → ⊥
     shut true h = false≢true h

@@ -1,7 +1,7 @@
 -- The laws of lines, numbers and rows.
 pub mod TextPieces
 mod LeadingDigits
-mod NamesLine
+pub mod NamesLine
 pub mod LineWalk
 mod NumberLine
 mod LineFields

@@ -10,9 +10,8 @@ use lib.ListN.{length, getD, set, drop, replicate, length-drop, length-set}
 use lib.Seq.{drop-drop, sets}
 use borrow.Author.Tests.{ltb-true}
 use Rattle.tables.specs.declared.Number.{Number}
-use Rattle.tables.specs.Lines.{upTo}
-use Rattle.tables.specs.Numbers.{isNumber, decimal, numbers}
-use Rattle.tables.specs.Reading.{leading, noNumber, startsField, fieldOf, startsRow, noLine, lineOf}
+use Rattle.tables.specs.Numbers.{isNumber, decimal}
+use Rattle.tables.specs.Reading.{leading, noNumber, startsField, fieldOf, startsRow, noLine, lineOf, upTo, numbers}
 use Rattle.tables.proofs.NumberLine.{row-more, row-last, splits, ends}
 
 field-inside : (x : ℕ) (s : List ℕ) → startsField x s ≡ true → length (leading s) < length s
@@ -46,7 +45,17 @@ module _ (x : ℕ) (s : List ℕ) (F : Number) (is : F ≡ fieldOf x s) where
   a-field some = judge (startsField x s) refl is
     where
       judge : (t : Bool) → startsField x s ≡ t → F ≡ cond t (record { length = suc (length (leading s)); value = decimal 0 (leading s) }) noNumber → Field
-      judge true g e = record { good = g; length-is = ap (λ (M : Number). M .length) e; value-is = ap (λ (M : Number). M .value) e; inside = omega (arith, ap (λ (M : Number). M .length) e, field-inside x s g) }
+      judge true g e =
+          record {
+            good =
+                g;
+            length-is =
+                ap (λ (M : Number). M .length) e;
+            value-is =
+                ap (λ (M : Number). M .value) e;
+            inside =
+                omega (arith, ap (λ (M : Number). M .length) e, field-inside x s g);
+          }
       judge false g e = absurd (some (ap (λ (M : Number). M .length) e))
 
 pub record Reads (k : ℕ) (s : List ℕ) (at j : ℕ) (vs : List ℕ) : Type 0 where

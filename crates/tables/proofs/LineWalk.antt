@@ -8,12 +8,12 @@ use native.Mathlib.Omega.{arith}
 use lib.ListN.{length, getD, take, drop, length-drop, drop-of-length-le, List·getD-eq-default}
 use lib.Seq.{drop-drop, getD-drop, take-suc}
 use borrow.Author.Tests.{lt-ltb, le-ltb}
-use Rattle.tables.specs.Lines.{upTo, past, parted, ended, lines, valueText, valueLines, shownLine, extent, lineStart}
-use Rattle.tables.specs.Reading.{Next, Found}
+use Rattle.tables.specs.Lines.{parted, lines, valueLines, shownLine, extent, lineStart}
+use Rattle.tables.specs.Reading.{NextLine, Found, upTo, past}
 use Rattle.tables.proofs.TextPieces.{upTo-within, upTo-take, past-drop, lines-past, lines-none}
 
 pub no-lines : lines [] ≡ []
-unfolding lines parted ended
+unfolding lines parted
 no-lines = refl
 
 extent-append : (a b : List (List ℕ)) → extent (a ++ b) ≡ extent a + extent b
@@ -23,6 +23,17 @@ extent-append (l ∷ a) b = omega (arith, extent-append a b)
 
 past-none : (s : List ℕ) → length s ≤ length (upTo 10 s) → past 10 s ≡ []
 past-none s high = let all : length s ≤ suc (length (upTo 10 s)) = omega arith in past-drop 10 s ∙ drop-of-length-le s all
+
+-- the value lines are those of what follows the names line
+pub value-lines : (f : List ℕ) → valueLines f ≡ lines (past 10 f)
+unfolding valueLines
+value-lines f = decide (decLt (length (upTo 10 f)) (length f))
+  where
+    decide : Dec (length (upTo 10 f) < length f) → drop 1 (lines f) ≡ lines (past 10 f)
+    decide (yes low) = ap (drop 1) (lines-past f low)
+    decide (no h) =
+        let high : length f ≤ length (upTo 10 f) = omega arith in
+        ap (drop 1) (lines-none f high) ∙ sym (ap lines (past-none f high) ∙ no-lines)
 
 -- a text that has lines starts with one
 pub starts-line : (s : List ℕ) → 0 < length (lines s) → length (upTo 10 s) < length s
@@ -42,22 +53,30 @@ pub record Stands (f : List ℕ) (k at : ℕ) : Type 0 where
 
 -- a file that has value lines has a names line
 names-end : (f : List ℕ) → 0 < length (valueLines f) → length (upTo 10 f) < length f
-unfolding valueLines valueText
+unfolding valueLines
 names-end f some = decide (decLt (length (upTo 10 f)) (length f))
   where
     decide : Dec (length (upTo 10 f) < length f) → length (upTo 10 f) < length f
     decide (yes h) = h
     decide (no h) =
-        let none : lines (past 10 f) ≡ [] = ap lines (past-none f (omega arith)) ∙ no-lines in
+        let none : drop 1 (lines f) ≡ [] = ap (drop 1) (lines-none f (omega arith)) in
         absurd (omega (arith, ap length none))
 
+-- where a value line starts
+start-at : (f : List ℕ) (n : ℕ) → 0 < length (valueLines f) → extent (take (n + 1) (lines f)) ≡ length (upTo 10 f) + 1 + extent (take n (valueLines f))
+unfolding extent
+start-at f n some =
+    let all : lines f ≡ upTo 10 f ∷ valueLines f =
+    lines-past f (names-end f some) ∙ ap (λ (l : List (List ℕ)). upTo 10 f ∷ l) (sym (value-lines f)) in
+    ap (λ (l : List (List ℕ)). extent (take (n + 1) l)) all ∙ ap (λ (i : ℕ). extent (take i (upTo 10 f ∷ valueLines f))) (add-one n)
+
 -- past the names line
-pub stands-first : (f : List ℕ) (r : ℕ) → Next f 0 r → Stands f 0 r
-unfolding valueLines valueText extent
+pub stands-first : (f : List ℕ) (r : ℕ) → NextLine f 0 r → Stands f 0 r
+unfolding extent
 stands-first f r N =
     record {
       within = N .within;
-      lines-are = ap lines (N .rest);
+      lines-are = ap lines (N .rest) ∙ sym (value-lines f);
       at-is = λ (some : 0 < length (valueLines f)). omega (arith, N .moved (names-end f some));
     }
 
@@ -66,7 +85,7 @@ module _ (f : List ℕ) (k at : ℕ) (S : Stands f k at) where
   lines-left = ap length (S .lines-are) ∙ length-drop k (valueLines f)
 
   -- a step to the next line
-  pub stands-next : (r : ℕ) → Next f at r → Stands f (k + 1) r
+  pub stands-next : (r : ℕ) → NextLine f at r → Stands f (k + 1) r
   unfolding extent
   stands-next r N =
       record {
@@ -87,9 +106,12 @@ module _ (f : List ℕ) (k at : ℕ) (S : Stands f k at) where
       moved some =
           let low : length (upTo 10 (drop at f)) < length (drop at f) = starts-line (drop at f) (omega (arith, lines-left)) in
           let here : upTo 10 (drop at f) ≡ getD (valueLines f) k [] =
-          sym (ap (λ (l : List (List ℕ)). getD l 0 []) (sym (S .lines-are) ∙ lines-past (drop at f) low)) ∙ getD-drop k (valueLines f) 0 [] ∙ ap (λ (i : ℕ). getD (valueLines f) i []) (omega arith) in
+          sym (ap (λ (l : List (List ℕ)). getD l 0 []) (sym (S .lines-are) ∙ lines-past (drop at f) low))
+          ∙ getD-drop k (valueLines f) 0 [] ∙ ap (λ (i : ℕ). getD (valueLines f) i []) (omega arith) in
           let more : extent (take (k + 1) (valueLines f)) ≡ extent (take k (valueLines f)) + (length (getD (valueLines f) k []) + 1 + 0) =
-          ap (λ (i : ℕ). extent (take i (valueLines f))) (add-one k) ∙ ap extent (take-suc (valueLines f) k [] (omega arith)) ∙ extent-append (take k (valueLines f)) (getD (valueLines f) k [] ∷ []) in
+          ap (λ (i : ℕ). extent (take i (valueLines f))) (add-one k)
+          ∙ ap extent (take-suc (valueLines f) k [] (omega arith))
+          ∙ extent-append (take k (valueLines f)) (getD (valueLines f) k [] ∷ []) in
           omega (arith, N .moved low, S .at-is (omega arith), ap length here)
 
 -- no such line
@@ -124,10 +146,11 @@ module _ (f : List ℕ) (n at : ℕ) (S : Stands f n at) where
   found-line m is more =
       let low : length (upTo 10 (drop at f)) < length (drop at f) = omega (arith, length-drop at f, upTo-within 10 (drop at f), ne) in
       let here : getD (valueLines f) n [] ≡ upTo 10 (drop at f) =
-      sym (getD-drop n (valueLines f) 0 [] ∙ ap (λ (i : ℕ). getD (valueLines f) i []) (omega arith)) ∙ ap (λ (l : List (List ℕ)). getD l 0 []) (sym (S .lines-are) ∙ lines-past (drop at f) low) in
+      sym (getD-drop n (valueLines f) 0 [] ∙ ap (λ (i : ℕ). getD (valueLines f) i []) (omega arith))
+      ∙ ap (λ (l : List (List ℕ)). getD l 0 []) (sym (S .lines-are) ∙ lines-past (drop at f) low) in
       let inside : n < length (valueLines f) = omega (arith, lines-left f n at S, ap length (lines-past (drop at f) low)) in
       record {
-        start-is = rw (lt-ltb n (length (valueLines f)) inside) (S .at-is inside);
+        start-is = rw (lt-ltb n (length (valueLines f)) inside) (S .at-is inside ∙ sym (start-at f n (omega arith)));
         length-is = is ∙ sym (ap length here);
         inside = omega (arith, length-drop at f);
         bytes = ap (λ (i : ℕ). take i (drop at f)) is ∙ upTo-take 10 (drop at f) ∙ sym here;

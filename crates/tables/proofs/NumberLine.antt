@@ -9,9 +9,10 @@ use lib.Dec.{eqb, ltb}
 use lib.ListN.{length, getD, drop, length-append, drop-of-length-le}
 use lib.Seq.{drop-cons}
 use borrow.Author.Tests.{eq-eqb, ne-eqb, lt-ltb, le-ltb}
-use Rattle.tables.specs.Lines.{upTo, lengthened, parted}
-use Rattle.tables.specs.Numbers.{isDigit, areDigits, isNumber, decimal, fields, areNumbers, isRow, numbers}
-use Rattle.tables.specs.Reading.{has, leading, startsField, startsRow}
+use Rattle.refusals.specs.Search.{every}
+use Rattle.tables.specs.Lines.{lengthened, parted}
+use Rattle.tables.specs.Numbers.{isDigit, isNumber, decimal, isRow}
+use Rattle.tables.specs.Reading.{has, leading, startsField, startsRow, upTo, numbers}
 use Rattle.tables.proofs.TextPieces.{pieces}
 use Rattle.tables.proofs.LeadingDigits.{leading-digits, leading-whole, leading-stops}
 
@@ -34,19 +35,19 @@ ltb-shift k a b = decide (decLt a b)
     decide (no h) = le-ltb (k + a) (k + b) (omega arith) ∙ sym (le-ltb a b (omega arith))
 
 -- digits before a text: a byte that is no digit is found where it was, and the first piece grows
-first-digit : (b : ℕ) (D : List ℕ) → areDigits (b ∷ D) ≡ true → isDigit b ≡ true
-unfolding areDigits
+first-digit : (b : ℕ) (D : List ℕ) → every isDigit (b ∷ D) ≡ true → isDigit b ≡ true
+unfolding every
 first-digit b D e = split (isDigit b) e
   where
-    split : (t : Bool) → (t && areDigits D) ≡ true → t ≡ true
+    split : (t : Bool) → (t && every isDigit D) ≡ true → t ≡ true
     split true h = refl
     split false h = h
 
-more-digits : (b : ℕ) (D : List ℕ) → areDigits (b ∷ D) ≡ true → areDigits D ≡ true
-unfolding areDigits
+more-digits : (b : ℕ) (D : List ℕ) → every isDigit (b ∷ D) ≡ true → every isDigit D ≡ true
+unfolding every
 more-digits b D e = split (isDigit b) e
   where
-    split : (t : Bool) → (t && areDigits D) ≡ true → areDigits D ≡ true
+    split : (t : Bool) → (t && every isDigit D) ≡ true → every isDigit D ≡ true
     split true h = h
     split false h = absurd (false≢true h)
 
@@ -54,13 +55,13 @@ module _ (x : ℕ) (none : isDigit x ≡ false) where
   digit-other : (b : ℕ) → isDigit b ≡ true → eqb b x ≡ false
   digit-other b d = ne-eqb b x (λ (e : b ≡ x). false≢true (sym none ∙ sym (ap isDigit e) ∙ d))
 
-  upTo-digits : (D r : List ℕ) → areDigits D ≡ true → upTo x (D ++ r) ≡ D ++ upTo x r
+  upTo-digits : (D r : List ℕ) → every isDigit D ≡ true → upTo x (D ++ r) ≡ D ++ upTo x r
   unfolding upTo
   upTo-digits [] r d = refl
   upTo-digits (b ∷ D) r d =
       rw (digit-other b (first-digit b D d)) (ap (λ (l : List ℕ). b ∷ l) (upTo-digits D r (more-digits b D d)))
 
-  parted-digits : (D r first : List ℕ) (more : List (List ℕ)) → areDigits D ≡ true → parted x r ≡ first ∷ more
+  parted-digits : (D r first : List ℕ) (more : List (List ℕ)) → every isDigit D ≡ true → parted x r ≡ first ∷ more
       → parted x (D ++ r) ≡ (D ++ first) ∷ more
   unfolding parted lengthened
   parted-digits [] r first more d are = are
@@ -68,8 +69,8 @@ module _ (x : ℕ) (none : isDigit x ≡ false) where
       rw (digit-other b (first-digit b D d)) (ap (lengthened b) (parted-digits D r first more (more-digits b D d) are))
 
 -- a text with another byte in it is no number
-not-digits : (D r : List ℕ) (b : ℕ) → isDigit b ≡ false → areDigits (D ++ (b ∷ r)) ≡ false
-unfolding areDigits
+not-digits : (D r : List ℕ) (b : ℕ) → isDigit b ≡ false → every isDigit (D ++ (b ∷ r)) ≡ false
+unfolding every
 not-digits [] r b d = rw d
 not-digits (a ∷ D) r b d = rw (not-digits D r b d) (and-false (isDigit a))
 
@@ -78,13 +79,13 @@ unfolding isNumber
 not-number D r b d = rw (not-digits D r b d)
 
 -- a text of digits, the byte b and a rest
-module _ (D r : List ℕ) (digits : areDigits D ≡ true) where
+module _ (D r : List ℕ) (digits : every isDigit D ≡ true) where
   comma-upTo : upTo 10 (D ++ (44 ∷ r)) ≡ D ++ (44 ∷ upTo 10 r)
   unfolding upTo isDigit
   comma-upTo = upTo-digits 10 refl D (44 ∷ r) digits
 
-  comma-fields : fields (upTo 10 (D ++ (44 ∷ r))) ≡ D ∷ fields (upTo 10 r)
-  unfolding fields parted isDigit
+  comma-fields : parted 44 (upTo 10 (D ++ (44 ∷ r))) ≡ D ∷ parted 44 (upTo 10 r)
+  unfolding parted isDigit
   comma-fields =
       rw comma-upTo
       (parted-digits 44 refl D (44 ∷ upTo 10 r) [] (parted 44 (upTo 10 r)) digits refl ∙ ap (λ (l : List ℕ). l ∷ parted 44 (upTo 10 r)) (append-nil D))
@@ -106,8 +107,8 @@ module _ (D r : List ℕ) (digits : areDigits D ≡ true) where
   unfolding has
   line-has = lt-ltb (length (upTo 10 (D ++ (10 ∷ r)))) (length (D ++ (10 ∷ r))) (omega (arith, ap length line-upTo, length-append D (10 ∷ r)))
 
-  whole-fields : fields D ≡ D ∷ []
-  unfolding fields parted isDigit
+  whole-fields : parted 44 D ≡ D ∷ []
+  unfolding parted isDigit
   whole-fields =
       ap (parted 44) (sym (append-nil D)) ∙ parted-digits 44 refl D [] [] [] digits refl ∙ ap (λ (l : List ℕ). l ∷ []) (append-nil D)
 
@@ -115,8 +116,8 @@ module _ (D r : List ℕ) (digits : areDigits D ≡ true) where
   unfolding upTo isDigit
   whole-upTo = ap (upTo 10) (sym (append-nil D)) ∙ upTo-digits 10 refl D [] digits ∙ append-nil D
 
-  other-numbers : (b : ℕ) → isDigit b ≡ false → eqb b 10 ≡ false → eqb b 44 ≡ false → areNumbers (fields (upTo 10 (D ++ (b ∷ r)))) ≡ false
-  unfolding fields areNumbers parted lengthened upTo isDigit
+  other-numbers : (b : ℕ) → isDigit b ≡ false → eqb b 10 ≡ false → eqb b 44 ≡ false → every isNumber (parted 44 (upTo 10 (D ++ (b ∷ r)))) ≡ false
+  unfolding every parted lengthened upTo isDigit
   other-numbers b d ten comma =
       let p = pieces 44 (upTo 10 r) in
       let up : upTo 10 (D ++ (b ∷ r)) ≡ D ++ (b ∷ upTo 10 r) = upTo-digits 10 refl D (b ∷ r) digits ∙ rw ten in
@@ -128,13 +129,13 @@ pub data Shape (s : List ℕ) : Type 0 where
   sh-end : has 10 s ≡ false → ((x : ℕ) → startsField x s ≡ false) → Shape s
   sh-comma : (r : List ℕ) → r ≡ drop (suc (length (leading s))) s → startsField 44 s ≡ isNumber (leading s) → startsField 10 s ≡ false
       → has 10 s ≡ has 10 r
-      → fields (upTo 10 s) ≡ leading s ∷ fields (upTo 10 r)
+      → parted 44 (upTo 10 s) ≡ leading s ∷ parted 44 (upTo 10 r)
       → length (upTo 10 s) ≡ suc (length (leading s)) + length (upTo 10 r)
       → Shape s
   sh-line : startsField 44 s ≡ false → startsField 10 s ≡ isNumber (leading s) → has 10 s ≡ true → upTo 10 s ≡ leading s
-      → fields (upTo 10 s) ≡ leading s ∷ []
+      → parted 44 (upTo 10 s) ≡ leading s ∷ []
       → Shape s
-  sh-other : startsField 44 s ≡ false → startsField 10 s ≡ false → areNumbers (fields (upTo 10 s)) ≡ false → Shape s
+  sh-other : startsField 44 s ≡ false → startsField 10 s ≡ false → every isNumber (parted 44 (upTo 10 s)) ≡ false → Shape s
 
 module _ (s : List ℕ) where
   ended-field : (x : ℕ) → length s ≤ length (leading s) → startsField x s ≡ false
@@ -176,7 +177,7 @@ module _ (s : List ℕ) where
         let whole = stopped 44 e in
         sh-comma r refl (this-field 44 low e) (other-field 10 low (λ (z : getD s (length (leading s)) 0 ≡ 10). omega arith))
         (subst (λ (t : List ℕ). has 10 t ≡ has 10 r) whole (comma-has D r d))
-        (subst (λ (t : List ℕ). fields (upTo 10 t) ≡ D ∷ fields (upTo 10 r)) whole (comma-fields D r d))
+        (subst (λ (t : List ℕ). parted 44 (upTo 10 t) ≡ D ∷ parted 44 (upTo 10 r)) whole (comma-fields D r d))
         (subst (λ (t : List ℕ). length (upTo 10 t) ≡ suc (length D) + length (upTo 10 r)) whole (comma-length D r d))
 
     by-line : getD s (length (leading s)) 0 ≡ 10 → Shape s
@@ -189,13 +190,13 @@ module _ (s : List ℕ) where
         sh-line (other-field 44 low (λ (z : getD s (length (leading s)) 0 ≡ 44). omega arith)) (this-field 10 low e)
         (subst (λ (t : List ℕ). has 10 t ≡ true) whole (line-has D r d))
         up
-        (ap fields up ∙ whole-fields D [] d)
+        (ap (parted 44) up ∙ whole-fields D [] d)
 
     by-other : (getD s (length (leading s)) 0 ≡ 44 → ⊥) → (getD s (length (leading s)) 0 ≡ 10 → ⊥) → Shape s
     by-other comma ten =
         let b = getD s (length (leading s)) 0 in
         sh-other (other-field 44 low comma) (other-field 10 low ten)
-        (subst (λ (t : List ℕ). areNumbers (fields (upTo 10 t)) ≡ false) (stopped b refl)
+        (subst (λ (t : List ℕ). every isNumber (parted 44 (upTo 10 t)) ≡ false) (stopped b refl)
         (other-numbers (leading s) (drop (suc (length (leading s))) s) (leading-digits s) b (leading-stops s low) (ne-eqb b 10 ten) (ne-eqb b 44 comma)))
 
     byte : Dec (getD s (length (leading s)) 0 ≡ 44) → Dec (getD s (length (leading s)) 0 ≡ 10) → Shape s
@@ -213,7 +214,7 @@ module _ (s : List ℕ) where
 -- whether a text starts with a line of numbers: a field and a comma, and so on
 module _ (s : List ℕ) where
   pub row-more : (n : ℕ) → startsRow (suc (suc n)) s ≡ (startsField 44 s && startsRow (suc n) (drop (suc (length (leading s))) s))
-  unfolding startsRow isRow areNumbers
+  unfolding startsRow isRow every
   row-more n = decide (shape s)
     where
       pull : (h a d q : Bool) → (h && (a && (d && q))) ≡ (d && (h && (a && q)))
@@ -223,13 +224,13 @@ module _ (s : List ℕ) where
       decide : Shape s → startsRow (suc (suc n)) s ≡ (startsField 44 s && startsRow (suc n) (drop (suc (length (leading s))) s))
       decide (sh-end none shut) = rw (none, shut 44)
       decide (sh-comma r is good bad h f l) =
-          rw (good, h, f, ← is, eqb-suc (length (fields (upTo 10 r))) (suc n))
-          (pull (has 10 r) (eqb (length (fields (upTo 10 r))) (suc n)) (isNumber (leading s)) (areNumbers (fields (upTo 10 r))))
+          rw (good, h, f, ← is, eqb-suc (length (parted 44 (upTo 10 r))) (suc n))
+          (pull (has 10 r) (eqb (length (parted 44 (upTo 10 r))) (suc n)) (isNumber (leading s)) (every isNumber (parted 44 (upTo 10 r))))
       decide (sh-line shut good h up f) = rw (shut, h, f, ne-eqb 1 (suc (suc n)) (λ (z : 1 ≡ suc (suc n)). omega arith))
-      decide (sh-other shut bad wrong) = rw (shut, wrong, and-false (eqb (length (fields (upTo 10 s))) (suc (suc n)))) (and-false (has 10 s))
+      decide (sh-other shut bad wrong) = rw (shut, wrong, and-false (eqb (length (parted 44 (upTo 10 s))) (suc (suc n)))) (and-false (has 10 s))
 
   pub row-last : startsRow 1 s ≡ startsField 10 s
-  unfolding startsRow isRow areNumbers fields
+  unfolding startsRow isRow every
   row-last = decide (shape s)
     where
       and-true : (t : Bool) → (t && true) ≡ t
@@ -240,10 +241,16 @@ module _ (s : List ℕ) where
       decide (sh-end none shut) = rw (none, shut 10)
       decide (sh-comma r is good bad h f l) =
           let p = pieces 44 (upTo 10 r) in
-          let two : length (leading s ∷ fields (upTo 10 r)) ≡ suc (suc (length (p .more))) = ap (λ (q : List (List ℕ)). suc (length q)) (p .are) in
-          rw (bad, f, ne-eqb (length (leading s ∷ fields (upTo 10 r))) 1 (λ (z : length (leading s ∷ fields (upTo 10 r)) ≡ 1). omega arith)) (and-false (has 10 s))
+          let two : length (leading s ∷ parted 44 (upTo 10 r)) ≡ suc (suc (length (p .more))) = ap (λ (q : List (List ℕ)). suc (length q)) (p .are) in
+          rw (
+            bad,
+            f,
+            ne-eqb (length (leading s ∷ parted 44 (upTo 10 r))) 1
+                (λ (z : length (leading s ∷ parted 44 (upTo 10 r)) ≡ 1). omega arith),
+          )
+          (and-false (has 10 s))
       decide (sh-line shut good h up f) = rw (good, h, f) (and-true (isNumber (leading s)))
-      decide (sh-other shut bad wrong) = rw (bad, wrong, and-false (eqb (length (fields (upTo 10 s))) 1)) (and-false (has 10 s))
+      decide (sh-other shut bad wrong) = rw (bad, wrong, and-false (eqb (length (parted 44 (upTo 10 s))) 1)) (and-false (has 10 s))
 
   -- the numbers and the length of a line that starts with a field and a comma
   pub record Splits : Type 0 where
@@ -257,7 +264,13 @@ module _ (s : List ℕ) where
       decide : Shape s → Splits
       decide (sh-end none shut) = absurd (false≢true (sym (shut 44) ∙ good))
       decide (sh-comma r is _ _ _ f l) =
-          record { numbers-are = ap (map (decimal 0)) f ∙ ap (λ (t : List ℕ). decimal 0 (leading s) ∷ map (decimal 0) (fields (upTo 10 t))) is; length-is = l ∙ ap (λ (t : List ℕ). suc (length (leading s)) + length (upTo 10 t)) is }
+          record {
+            numbers-are =
+                ap (map (decimal 0)) f
+                ∙ ap (λ (t : List ℕ). decimal 0 (leading s) ∷ map (decimal 0) (parted 44 (upTo 10 t))) is;
+            length-is =
+                l ∙ ap (λ (t : List ℕ). suc (length (leading s)) + length (upTo 10 t)) is;
+          }
       decide (sh-line shut _ _ _ _) = absurd (false≢true (sym shut ∙ good))
       decide (sh-other shut _ _) = absurd (false≢true (sym shut ∙ good))
 

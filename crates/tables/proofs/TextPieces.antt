@@ -10,8 +10,8 @@ use lib.Dec.{eqb}
 use lib.ListN.{length, getD, take, drop, length-drop, drop-of-length-le}
 use lib.Seq.{drop-cons, drop-length, drop-drop, take-all}
 use borrow.Author.Tests.{eq-eqb, ne-eqb}
-use Rattle.tables.specs.Lines.{upTo, past, lengthened, parted, ended, last, lines, unended}
-use Rattle.tables.specs.Reading.{Next}
+use Rattle.tables.specs.Lines.{lengthened, parted, lines, extent}
+use Rattle.tables.specs.Reading.{NextLine, upTo, past, ended, last, unended}
 
 module _ (x : ℕ) where
   pub upTo-within : (s : List ℕ) → length (upTo x s) ≤ length s
@@ -92,11 +92,26 @@ module _ (x : ℕ) where
       step true e p = record { first = []; more = parted x s; are = rw e }
       step false e p = record { first = b ∷ p .first; more = p .more; are = rw (e, p .are) }
 
+-- the lines are all pieces but the last
+pub lines-ended : (s : List ℕ) → lines s ≡ ended (parted 10 s)
+unfolding lines ended
+lines-ended s = front (parted 10 s)
+  where
+    front : (q : List (List ℕ)) → take (length q - 1) q ≡ ended q
+    front [] = refl
+    front (piece ∷ []) = refl
+    front (piece ∷ (next ∷ rest)) =
+        let one : length (piece ∷ (next ∷ rest)) - 1 ≡ suc (length (next ∷ rest) - 1) = omega arith in
+        ap (λ (n : ℕ). take n (piece ∷ (next ∷ rest))) one ∙ ap (λ (q : List (List ℕ)). piece ∷ q) (front (next ∷ rest))
+
 -- a text that starts with a line
 module _ (s : List ℕ) (low : length (upTo 10 s) < length s) where
   pub lines-past : lines s ≡ upTo 10 s ∷ lines (past 10 s)
-  unfolding lines ended
-  lines-past = let p = pieces 10 (past 10 s) in rw (parted-past 10 s low, p .are)
+  unfolding ended
+  lines-past =
+      let p = pieces 10 (past 10 s) in
+      let parts : ended (parted 10 s) ≡ upTo 10 s ∷ ended (parted 10 (past 10 s)) = rw (parted-past 10 s low, p .are) in
+      lines-ended s ∙ parts ∙ ap (λ (q : List (List ℕ)). upTo 10 s ∷ q) (sym (lines-ended (past 10 s)))
 
   pub unended-past : unended s ≡ unended (past 10 s)
   unfolding unended last
@@ -105,12 +120,33 @@ module _ (s : List ℕ) (low : length (upTo 10 s) < length s) where
 -- a text in which no line ends
 module _ (s : List ℕ) (high : length s ≤ length (upTo 10 s)) where
   pub lines-none : lines s ≡ []
-  unfolding lines ended
-  lines-none = rw (parted-whole 10 s high)
+  unfolding ended
+  lines-none = lines-ended s ∙ rw (parted-whole 10 s high)
 
   pub unended-all : unended s ≡ s
   unfolding unended last
   unended-all = rw (parted-whole 10 s high)
+
+-- the lines with their bytes 10, and what no byte 10 ends, are the whole text
+pub extent-lines : (s : List ℕ) → extent (lines s) + length (unended s) ≡ length s
+unfolding unended extent ended last parted lengthened
+extent-lines s = rw (lines-ended s) (whole s)
+  where
+    longer : (b : ℕ) (first : List ℕ) (more : List (List ℕ))
+        → extent (ended ((b ∷ first) ∷ more)) + length (last ((b ∷ first) ∷ more)) ≡ suc (extent (ended (first ∷ more)) + length (last (first ∷ more)))
+    longer b first [] = omega arith
+    longer b first (next ∷ more) = omega arith
+
+    whole : (s : List ℕ) → extent (ended (parted 10 s)) + length (last (parted 10 s)) ≡ length s
+    whole [] = refl
+    whole (b ∷ s) = let p = pieces 10 s in step (eqb b 10) (p .first) (p .more) (p .are) (whole s)
+      where
+        step : (t : Bool) (first : List ℕ) (more : List (List ℕ)) → parted 10 s ≡ first ∷ more
+            → extent (ended (parted 10 s)) + length (last (parted 10 s)) ≡ length s
+            → extent (ended (cond t ([] ∷ parted 10 s) (lengthened b (parted 10 s)))) + length
+            (last (cond t ([] ∷ parted 10 s) (lengthened b (parted 10 s)))) ≡ suc (length s)
+        step true first more are h = rw are (omega (arith, rw are at h))
+        step false first more are h = rw are (longer b first more ∙ ap suc (rw are at h))
 
 -- what `&f[at..]` is
 pub rest : (f : List ℕ) (at : ℕ) → take (length f - at) (drop at f) ≡ drop at f
@@ -121,7 +157,7 @@ module _ (f : List ℕ) (at n : ℕ) (fits : at ≤ length f) (is : n ≡ length
   pub line-within : at + n ≤ length f
   line-within = omega (arith, upTo-within 10 (drop at f), length-drop at f)
 
-  pub next-some : at + n < length f → Next f at (at + n + 1)
+  pub next-some : at + n < length f → NextLine f at (at + n + 1)
   next-some low =
       let e : at + suc (length (upTo 10 (drop at f))) ≡ at + n + 1 = omega arith in
       record {
@@ -130,7 +166,7 @@ module _ (f : List ℕ) (at n : ℕ) (fits : at ≤ length f) (is : n ≡ length
         moved = λ (_ : length (upTo 10 (drop at f)) < length (drop at f)). omega arith;
       }
 
-  pub next-none : length f ≤ at + n → Next f at (at + n)
+  pub next-none : length f ≤ at + n → NextLine f at (at + n)
   next-none high =
       let end : length f ≤ at + suc (length (upTo 10 (drop at f))) = omega arith in
       record {

@@ -10,12 +10,12 @@ use lib.Seq.{sets, drop-drop}
 use borrow.Author.Tests.{lt-ltb, le-ltb, ltb-true, ltb-false}
 use Rattle.tables.specs.declared.Line.{Line}
 use Rattle.tables.specs.declared.Form.the-variants.{Whole, Broken}
-use Rattle.tables.specs.Lines.{upTo, past, parted, last, lines, unended, valueText, valueLines}
-use Rattle.tables.specs.Numbers.{isRow, numbers}
-use Rattle.tables.specs.Table.{firstBroken, isBroken}
-use Rattle.tables.specs.Reading.{Next, has, startsRow, noLine, lineOf, formOf}
+use Rattle.tables.specs.Lines.{parted, lines, valueLines}
+use Rattle.tables.specs.Numbers.{isRow}
+use Rattle.tables.specs.Table.{firstBroken}
+use Rattle.tables.specs.Reading.{NextLine, has, startsRow, noLine, lineOf, breaks, formOf, upTo, past, last, unended, numbers}
 use Rattle.tables.proofs.TextPieces.{past-drop, lines-past, lines-none, unended-past, unended-all}
-use Rattle.tables.proofs.LineWalk.{no-lines}
+use Rattle.tables.proofs.LineWalk.{no-lines, value-lines}
 
 -- what a line that was looked for says of the text
 module _ (k : ℕ) (s : List ℕ) (L : Line) (is : L ≡ lineOf k s) where
@@ -34,7 +34,14 @@ module _ (k : ℕ) (s : List ℕ) (L : Line) (is : L ≡ lineOf k s) where
           → L ≡ cond (a && b) (record { length = suc (length (upTo 10 s)); values = sets (replicate 7 0) 0 (numbers (upTo 10 s)) }) noLine
           → Row
       judge true true e g l =
-          record { ended = ltb-true (length (upTo 10 s)) (length s) e; good = g; length-is = ap (λ (M : Line). M .length) l; values-are = ap (λ (M : Line). M .values) l }
+          record {
+            ended =
+                ltb-true (length (upTo 10 s)) (length s) e;
+            good =
+                g;
+            length-is = ap (λ (M : Line). M .length) l;
+            values-are = ap (λ (M : Line). M .values) l;
+          }
       judge true false e g l = absurd (some (ap (λ (M : Line). M .length) l))
       judge false b e g l = absurd (some (ap (λ (M : Line). M .length) l))
 
@@ -59,19 +66,18 @@ pub record Judges (k : ℕ) (f : List ℕ) (n at : ℕ) : Type 0 where
   pub fewer : n ≤ at
   pub broken : n + firstBroken k (lines (drop at f)) ≡ firstBroken k (valueLines f)
   pub count : n + length (lines (drop at f)) ≡ length (valueLines f)
-  pub tail : unended (drop at f) ≡ unended (valueText f)
+  pub tail : unended (drop at f) ≡ unended (past 10 f)
   pub lines-are : lines (drop at f) ≡ drop n (valueLines f)
 
-pub judges-none : (k : ℕ) (f : List ℕ) (r : ℕ) → Next f 0 r → Judges k f 0 r
-unfolding valueLines valueText
+pub judges-none : (k : ℕ) (f : List ℕ) (r : ℕ) → NextLine f 0 r → Judges k f 0 r
 judges-none k f r N =
     record {
       within = N .within;
       fewer = omega arith;
-      broken = ap (λ (t : List ℕ). 0 + firstBroken k (lines t)) (N .rest) ∙ omega arith;
-      count = ap (λ (t : List ℕ). 0 + length (lines t)) (N .rest) ∙ omega arith;
+      broken = ap (λ (t : List ℕ). 0 + firstBroken k (lines t)) (N .rest) ∙ omega (arith, ap (firstBroken k) (value-lines f));
+      count = ap (λ (t : List ℕ). 0 + length (lines t)) (N .rest) ∙ omega (arith, ap length (value-lines f));
       tail = ap unended (N .rest);
-      lines-are = ap lines (N .rest);
+      lines-are = ap lines (N .rest) ∙ sym (value-lines f);
     }
 
 no-tail : unended [] ≡ []
@@ -80,12 +86,12 @@ no-tail = refl
 
 module _ (k : ℕ) (f : List ℕ) (n at : ℕ) (J : Judges k f n at) where
   pub judges-end : length f ≤ at → Whole n ≡ formOf k f
-  unfolding formOf isBroken firstBroken
+  unfolding formOf breaks firstBroken
   judges-end end =
       let none : drop at f ≡ [] = drop-of-length-le f end in
       let b : firstBroken k (valueLines f) ≡ n = sym (J .broken) ∙ ap (λ (t : List (List ℕ)). n + firstBroken k t) (ap lines none ∙ no-lines) ∙ omega arith in
       let m : length (valueLines f) ≡ n = sym (J .count) ∙ ap (λ (t : List (List ℕ)). n + length t) (ap lines none ∙ no-lines) ∙ omega arith in
-      let t : unended (valueText f) ≡ [] = sym (J .tail) ∙ ap unended none ∙ no-tail in
+      let t : unended (past 10 f) ≡ [] = sym (J .tail) ∙ ap unended none ∙ no-tail in
       rw (b, m, t, le-ltb n n (omega arith))
 
   module _ (L : Line) (is : L ≡ lineOf k (drop at f)) where
@@ -113,7 +119,7 @@ module _ (k : ℕ) (f : List ℕ) (n at : ℕ) (J : Judges k f n at) where
         }
 
     pub judges-broken : at < length f → L .length ≡ 0 → Broken n ≡ formOf k f
-    unfolding formOf isBroken firstBroken
+    unfolding formOf breaks firstBroken
     judges-broken low none = decide (no-row k (drop at f) L is none)
       where
         shut : (t : Bool) → Broken n ≡ cond (t || true) (Broken n) (Whole (length (valueLines f)))
@@ -122,8 +128,10 @@ module _ (k : ℕ) (f : List ℕ) (n at : ℕ) (J : Judges k f n at) where
 
         decide : NoRow k (drop at f) L is → Broken n ≡ formOf k f
         decide (unended-row high) =
-            let b : firstBroken k (valueLines f) ≡ n = sym (J .broken) ∙ ap (λ (t : List (List ℕ)). n + firstBroken k t) (lines-none (drop at f) high) ∙ omega arith in
-            let t : unended (valueText f) ≡ drop at f = sym (J .tail) ∙ unended-all (drop at f) high in
+            let b : firstBroken k (valueLines f) ≡ n =
+            sym (J .broken) ∙ ap (λ (t : List (List ℕ)). n + firstBroken k t) (lines-none (drop at f) high)
+            ∙ omega arith in
+            let t : unended (past 10 f) ≡ drop at f = sym (J .tail) ∙ unended-all (drop at f) high in
             rw (b, t, lt-ltb 0 (length (drop at f)) (omega (arith, length-drop at f))) (shut (ltb n (length (valueLines f))))
         decide (broken-row ended bad) =
             let ls = lines-past (drop at f) ended in

@@ -1,8 +1,8 @@
 -- What the reader's own steps find: a number and a line at the start of a text, the next line, what rule 2 keeps. Only the
 -- contracts of these steps cite it; what a reader returns is defined without it. Assumes nothing.
 use mathlib.Core.Path.{_≡_}
-use mathlib.Core.Bool.{Bool, cond, not, _&&_}
-use mathlib.Core.List.{List, [], _∷_, _++_}
+use mathlib.Core.Bool.{Bool, cond, not, _&&_, _||_}
+use mathlib.Core.List.{List, [], _∷_, _++_, map}
 use Prim.Native.Nat.{ℕ, suc, _+_, _*_, _<_, _≤_}
 use lib.ListN.{length, getD, take, drop, replicate}
 use lib.Seq.{sets}
@@ -14,13 +14,39 @@ use Rattle.tables.specs.declared.Column.{Column}
 use Rattle.tables.specs.declared.Form.{Form}
 use Rattle.tables.specs.declared.Form.the-variants.{Whole, Broken}
 use Rattle.tables.specs.declared.Span.{Span}
-use Rattle.tables.specs.Lines.{upTo, past, valueLines, lineStart, shownLine}
-use Rattle.tables.specs.Numbers.{isDigit, isNumber, decimal, isRow, numbers}
-use Rattle.tables.specs.Table.{firstBroken, isBroken, numberAt}
+use Rattle.tables.specs.Lines.{parted, valueLines, lineStart, shownLine}
+use Rattle.tables.specs.Numbers.{isDigit, isNumber, decimal, isRow}
+use Rattle.tables.specs.Table.{firstBroken, numberAt}
+
+-- the piece of a text before the first byte x, or the whole
+unfoldable pub upTo : ℕ → List ℕ → List ℕ
+upTo x [] = []
+upTo x (b ∷ text) = cond (eqb b x) [] (b ∷ upTo x text)
+
+-- what follows the first byte x, or nothing
+unfoldable pub past : ℕ → List ℕ → List ℕ
+past x [] = []
+past x (b ∷ text) = cond (eqb b x) text (past x text)
 
 -- the byte x stands in the text
 unfoldable pub has : ℕ → List ℕ → Bool
 has x text = ltb (length (upTo x text)) (length text)
+
+-- all pieces but the last
+unfoldable pub ended : List (List ℕ) → List (List ℕ)
+ended [] = []
+ended (piece ∷ []) = []
+ended (piece ∷ (next ∷ pieces)) = piece ∷ ended (next ∷ pieces)
+
+-- the last piece
+unfoldable pub last : List (List ℕ) → List ℕ
+last [] = []
+last (piece ∷ []) = piece
+last (piece ∷ (next ∷ pieces)) = last (next ∷ pieces)
+
+-- what no byte 10 ends
+unfoldable pub unended : List ℕ → List ℕ
+unended file = last (parted 10 file)
 
 -- the digits at the start of a text
 unfoldable pub leading : List ℕ → List ℕ
@@ -49,13 +75,21 @@ startsRow k text = has 10 text && isRow k (upTo 10 text)
 abbrev pub noLine : Line
 noLine = record { length = 0; values = replicate 7 0 }
 
+-- the numbers of a line
+unfoldable pub numbers : List ℕ → List ℕ
+numbers line = map (decimal 0) (parted 44 line)
+
 -- the line of k numbers at the start of a text, with its length, byte 10 included; length 0 if there is none
 unfoldable pub lineOf : ℕ → List ℕ → Line
 lineOf k text = cond (startsRow k text) (record { length = suc (length (upTo 10 text)); values = sets (replicate 7 0) 0 (numbers (upTo 10 text)) }) noLine
 
+-- a value line isn't k numbers, or something follows the last byte 10; no byte of the names line is looked at
+unfoldable pub breaks : ℕ → List ℕ → Bool
+breaks k file = ltb (firstBroken k (valueLines file)) (length (valueLines file)) || ltb 0 (length (unended (past 10 file)))
+
 -- how many value lines there are, or the first broken one
 unfoldable pub formOf : ℕ → List ℕ → Form
-formOf k file = cond (isBroken k file) (Broken (firstBroken k (valueLines file))) (Whole (length (valueLines file)))
+formOf k file = cond (breaks k file) (Broken (firstBroken k (valueLines file))) (Whole (length (valueLines file)))
 
 -- value line n lies at the span, inside the file
 pub record Found (file : List ℕ) (n : ℕ) (span : Span) : Type 0 where
@@ -65,7 +99,7 @@ pub record Found (file : List ℕ) (n : ℕ) (span : Span) : Type 0 where
   pub bytes : take (span .length) (drop (span .start) file) ≡ shownLine file n
 
 -- the next line starts at r, past the line at `at` where byte 10 ends that one, or r is the file's end
-pub record Next (file : List ℕ) (at r : ℕ) : Type 0 where
+pub record NextLine (file : List ℕ) (at r : ℕ) : Type 0 where
   pub within : r ≤ length file
   pub rest : drop r file ≡ past 10 (drop at file)
   pub moved : length (upTo 10 (drop at file)) < length (drop at file) → r ≡ at + length (upTo 10 (drop at file)) + 1

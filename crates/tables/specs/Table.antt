@@ -9,8 +9,8 @@ use Rattle.refusals.specs.declared.Verdict.{Verdict}
 use Rattle.refusals.specs.declared.Verdict.the-variants.{Accepted, Refused}
 use Rattle.refusals.specs.declared.Refusal.the-variants.{Names, Form}
 use Rattle.refusals.specs.Search.{tabulate}
-use Rattle.tables.specs.Lines.{valueText, valueLines, unended}
-use Rattle.tables.specs.Numbers.{isRow, numbers}
+use Rattle.tables.specs.Lines.{parted, lines, valueLines, shownLine, extent}
+use Rattle.tables.specs.Numbers.{decimal, isRow}
 
 -- the file's start is the text
 unfoldable pub starts : List ℕ → List ℕ → Bool
@@ -29,15 +29,15 @@ firstBroken k (line ∷ rest) = cond (isRow k line) (suc (firstBroken k rest)) 0
 
 -- a line isn't k numbers, or something follows the last byte 10
 unfoldable pub isBroken : ℕ → List ℕ → Bool
-isBroken k file = ltb (firstBroken k (valueLines file)) (length (valueLines file)) || ltb 0 (length (unended (valueText file)))
+isBroken k file = ltb (firstBroken k (valueLines file)) (length (valueLines file)) || ltb (extent (lines file)) (length file)
 
 -- "2. A value line has another count of numbers, another form or no byte 10."
 unfoldable pub rule2 : ℕ → List ℕ → Verdict
 rule2 k file = cond (isBroken k file) (Refused Form (firstBroken k (valueLines file) + 2)) Accepted
 
--- number j of value line n; 0 where there is none
+-- the number that field j of value line n writes; 0 where there is none
 unfoldable pub numberAt : List ℕ → ℕ → ℕ → ℕ
-numberAt file j n = getD (numbers (getD (valueLines file) n [])) j 0
+numberAt file j n = decimal 0 (getD (parted 44 (shownLine file n)) j [])
 
 -- the numbers j of the first 64 value lines, and zeros where there are no more lines
 unfoldable pub column : List ℕ → ℕ → List ℕ

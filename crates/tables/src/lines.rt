@@ -2,8 +2,8 @@
 ghost use mathlib.Core.Path.{_≡_};
 ghost use Prim.Native.Nat.{_≤_};
 ghost use lib.ListN.{length};
-ghost use Rattle.tables.specs.Lines.{upTo, shownLine};
-ghost use Rattle.tables.specs.Reading.{Next, Found};
+ghost use Rattle.tables.specs.Lines.{shownLine};
+ghost use Rattle.tables.specs.Reading.{NextLine, Found, upTo};
 use crate::Span;
 
 // How many bytes of the text stand before its first byte 10.
@@ -23,7 +23,7 @@ fn line_length(text: &[u8]) -> usize
 // Where the line after the one at `at` starts: the file's end where that one is the last.
 pub fn next_line(file: &[u8], at: usize) -> usize
     requires { ⌜ at ≤ length (now file) ⌝ }
-    ensures { λ r. ⌜ Next (now (file .entry)) at r ⌝ }
+    ensures { λ r. ⌜ NextLine (now (file .entry)) at r ⌝ }
 {
     let end = at + line_length(&file[at..]);
     if end < file.len() { end + 1 } else { end }

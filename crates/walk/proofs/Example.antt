@@ -10,8 +10,8 @@ use borrow.Author.Tests.{le-ltb}
 use Rattle.refusals.specs.declared.Verdict.{Verdict}
 use Rattle.refusals.specs.declared.Verdict.the-variants.{Accepted, Refused}
 use Rattle.refusals.specs.declared.Refusal.the-variants.{NotOpen}
-use Rattle.refusals.specs.Search.{firstBelow, anyBelow, allBelow, countBelow, greatestBelow, tabulate}
-use Rattle.refusals.specs.Verdict.{firstRefusal, lineVerdict, firstLine, noLine, rule3}
+use Rattle.refusals.specs.Search.{firstBelow, anyBelow, allBelow, countBelow, greatestBelow, tabulate, isOf}
+use Rattle.refusals.specs.Verdict.{firstRefusal, firstLine, noLine, rule3, ifAccepted}
 use Rattle.refusals.proofs.Verdicts.{refused-not}
 use Rattle.tables.specs.Numbers.{isDigit}
 use Rattle.cell.specs.declared.Cell.{Cell}
@@ -23,16 +23,16 @@ use Rattle.recipe.specs.declared.RecipeReading.{RecipeReading}
 use Rattle.recipe.specs.Rules as recipe
 use Rattle.recipe.specs.Reader.{recipeNames, readRecipe}
 use Rattle.positions.specs.Radix.{sumBelow, productBelow}
-use Rattle.positions.specs.Sizes.{resourceCount, farthest, stateCount, stateCounts, partsIn, partCount, jointCount, sizesFor, sizesOf}
-use Rattle.positions.specs.Position.{start, stateWeight, stateNumber, placeNumber, positionOf, entryOf}
-use Rattle.positions.specs.Rules.{checkRecords, recordRules, rule13, rule14, stateFits, placeCount, placeFits, isPosition, rule16}
-use Rattle.steps.specs.Lines.{isAt, firstLineOf, linesOf, kindOf, thenOf, elseOf, lineOf, inAny, isTaken, isGiven}
-use Rattle.steps.specs.Joint.{mayDo, acts, actsOn, howMany, portFits, isStep, isSilent, isSilentStep, stateAfter, receiver, handed, placeAfter, after}
-use Rattle.steps.specs.Carry.{serves, matches, standsAt, present, isFree, free, carriesDo, carriesTest, carries, putThere, placed, partsMoved, afterCarry}
+use Rattle.positions.specs.Sizes.{stateCount, stateCounts, partsIn, partCount, jointCount, sizesFor, sizesOf, farthest}
+use Rattle.positions.specs.Position.{start, stateNumber, placeNumber, positionOf, entryOf, stateWeight}
+use Rattle.positions.specs.Rules.{checkRecords, recordRules, rule13, rule14, placeCount, isPosition, rule16, placeFits, stateFits}
+use Rattle.steps.specs.Lines.{firstLineOf, linesOf, kindOf, thenOf, elseOf, isTaken, isGiven}
+use Rattle.steps.specs.Joint.{mayDo, acts, actsOn, howMany, portFits, isStep, isSilentStep, stateAfter, receiver, handed, placeAfter, after, isSilent}
+use Rattle.steps.specs.Carry.{serves, matches, standsAt, present, free, carries, putThere, placed, partsMoved, afterCarry, isFree}
 use Rattle.steps.specs.Entry.{entryKind, letter, unused, lettersUsed, isLine, isFormed, only, stepOf, mayBeTaken}
 use Rattle.steps.specs.Effect.{taken, effect, isMove, opens, leaves, makes, leadsTo}
 use Rattle.run.specs.declared.Run.{Run}
-use Rattle.run.specs.Calls.{freshRun, entryAt, tableRules, entryRules, moveRules, reportRules, rule17, rule18, rule19, moveAnswer, nextMove, nextRun, reportAnswer, reportOf}
+use Rattle.run.specs.Calls.{tableRules, freshRun, entryAt, entryRules, moveRules, reportRules, rule17, rule18, rule19, nextMove, nextRun, reportOf}
 use Rattle.planner.specs.Call.{checkPlan, PlanCall}
 use Rattle.worked.specs.Bench.{digits, row, cellFile, recipeWith, recipeFile}
 use Rattle.worked.specs.Moves.{filled, benchCell, benchRecipe, benchEntry, benchTable}
@@ -52,11 +52,15 @@ module _ (c : Cell) (r : Recipe) (planned other : List ℕ) (both : rule14 (size
   toldBy run byte fits entry =
       let checked = recordRules c r ++ (rule13 (sizesOf c r) ∷ fits ∷ rule16 (sizesOf c r) (run .point) (run .configuration) ∷ []) in
       let opened = noLine NotOpen (not (opens c r (run .point) (run .configuration) entry)) in
-      let report = reportAnswer (firstRefusal (checked ++ (rule17 (byte - 48) ∷ opened ∷ rule19 r run ∷ []))) run (record { point = leadsTo r (run .point) entry (byte - 48); configuration = makes c r (run .point) (run .configuration) entry (byte - 48) }) in
-      cond (isDigit byte) (reported c r (moveAnswer (firstRefusal (checked ++ (opened ∷ []))) entry .entry) run (report .verdict) (report .run)) (record { line = []; more = false; run = run })
+      let outcome = byte - 48 in
+      let verdict = firstRefusal (checked ++ (rule17 outcome ∷ opened ∷ rule19 r run ∷ [])) in
+      let next : Run =
+      record { point = leadsTo r (run .point) entry outcome; configuration = makes c r (run .point) (run .configuration) entry outcome } in
+      let move = ifAccepted (firstRefusal (checked ++ (opened ∷ []))) entry 0 in
+      cond (isDigit byte) (reported c r move run verdict (ifAccepted verdict next run)) (record { line = []; more = false; run = run })
 
   told-by : (table : List ℕ) (run : Run) (byte : ℕ) → told c r table run byte ≡ toldBy run byte (rule14 (sizesOf c r) (length table)) (entryAt c r table run)
-  unfolding told toldBy nextMove reportOf entryRules tableRules moveRules reportRules rule18 nextRun
+  unfolding told toldBy nextMove reportOf tableRules entryRules moveRules reportRules rule18 nextRun
   told-by table run byte = refl
 
   told-same : (run : Run) (byte : ℕ) → entryAt c r planned run ≡ entryAt c r other run → told c r planned run byte ≡ told c r other run byte
@@ -68,7 +72,8 @@ module _ (c : Cell) (r : Recipe) (planned other : List ℕ) (both : rule14 (size
   printed-same run (byte ∷ bytes) along =
       let same = told-same run byte (along .0) in
       (λ i. same i .line ++ cond (same i .more) (printed c r planned (same i .run) bytes) [])
-      ∙ ap (λ (l : List ℕ). told c r other run byte .line ++ cond (told c r other run byte .more) l []) (printed-same (told c r other run byte .run) bytes (along .1))
+      ∙ ap (λ (l : List ℕ). told c r other run byte .line ++ cond (told c r other run byte .more) l [])
+      (printed-same (told c r other run byte .run) bytes (along .1))
 
 -- `0010`
 abbrev pub outcomes : List ℕ
@@ -98,29 +103,41 @@ record Computed : Type 0 where
       → Along benchCell benchRecipe planned benchTable freshRun outcomes
 
 computed : Computed
-unfolding firstBelow anyBelow allBelow countBelow greatestBelow tabulate firstRefusal lineVerdict firstLine noLine rule3 cell.inRange cell.leavesRange
-    cell.rule4 cell.isOf cell.greatestResource cell.hasNoLine cell.gap cell.rule5 cell.otherAct cell.partner cell.inOrOut cell.unpaired cell.rule6
-    cell.afterRange cell.cellRules recipe.inRange recipe.leavesRange recipe.rule4 recipe.breaksOrder recipe.rule7 recipe.samePoint recipe.clashes
-    recipe.breaksRepeat recipe.rule8 recipe.hasUnused recipe.breaksUnused recipe.rule9 recipe.lacksParts recipe.breaksParts recipe.rule10
-    recipe.holdsPart recipe.common recipe.sharesPart recipe.breaksCommon recipe.rule11 recipe.opensPoint recipe.pointCount recipe.leadsOut
-    recipe.breaksTarget recipe.rule12 recipe.afterRange recipe.recipeRules sumBelow productBelow resourceCount farthest stateCount stateCounts partsIn
-    partCount jointCount sizesFor start stateWeight stateNumber placeNumber positionOf checkRecords recordRules rule13 rule14 stateFits placeCount placeFits
-    isPosition rule16 isAt firstLineOf linesOf kindOf thenOf elseOf lineOf inAny isTaken isGiven freshRun entryOf tableRules entryRules moveRules
-    reportRules rule17 rule18 rule19 moveAnswer nextMove nextRun reportAnswer reportOf filled benchCell benchRecipe benchEntry benchTable isDigit
-    lastDigit digitsOf field moveLine digits row cellFile recipeWith recipeFile cellNames recipeNames numbered positionIn reported told printed Along
-    mayDo acts actsOn howMany portFits isStep isSilent isSilentStep stateAfter receiver handed placeAfter after serves matches standsAt present isFree
-    free carriesDo carriesTest carries putThere placed partsMoved afterCarry entryKind letter unused lettersUsed isLine isFormed only stepOf
-    mayBeTaken taken effect isMove opens leaves makes leadsTo
-computed = record { lines = refl; entries = refl; cell-start = refl; recipe-start = refl; positions = refl; same = λ planned first second third fourth. (first, (second, (third, (fourth, tt)))) }
+unfolding isOf firstBelow anyBelow allBelow countBelow greatestBelow tabulate firstRefusal firstLine noLine rule3 cell.leavesRange
+    cell.rule4 cell.greatestResource cell.rule5 cell.otherAct cell.partner cell.unpaired cell.rule6 cell.cellRules recipe.leavesRange
+    recipe.rule4 recipe.breaksOrder recipe.rule7 recipe.clashes recipe.breaksRepeat recipe.rule8 recipe.breaksUnused recipe.rule9
+    recipe.lacksParts recipe.rule10 recipe.holdsPart recipe.common recipe.sharesPart recipe.rule11 recipe.pointCount recipe.leadsOut
+    recipe.rule12 recipe.recipeRules sumBelow productBelow stateCount stateCounts partsIn partCount jointCount sizesFor start stateNumber
+    placeNumber positionOf checkRecords recordRules rule13 rule14 placeCount isPosition rule16 firstLineOf linesOf kindOf thenOf elseOf
+    isTaken isGiven freshRun entryOf tableRules entryRules moveRules reportRules rule17 rule18 rule19 nextMove nextRun reportOf filled benchCell
+    benchRecipe benchEntry benchTable isDigit ifAccepted lastDigit digitsOf field moveLine digits row cellFile recipeWith recipeFile
+    cellNames recipeNames numbered positionIn reported told printed Along mayDo acts actsOn howMany portFits isStep isSilentStep stateAfter
+    receiver handed placeAfter after serves matches standsAt present free carries putThere placed partsMoved afterCarry entryKind letter
+    unused lettersUsed isLine isFormed only stepOf mayBeTaken taken effect isMove opens leaves makes leadsTo cell.inRange cell.gap
+    cell.hasNoLine recipe.inRange recipe.hasUnused farthest stateWeight stateFits placeFits isSilent isFree
+computed =
+    record {
+      lines =
+          refl;
+      entries =
+          refl;
+      cell-start =
+          refl;
+      recipe-start =
+          refl;
+      positions = refl;
+      same = λ planned first second third fourth. (first, (second, (third, (fourth, tt))));
+    }
 
 -- every plan call leaves a table of the length that was lent
-call-length : {c : Cell} {r : Recipe} {lent scratch planned scratch′ : List ℕ} {verdict : Verdict} → PlanCall c r lent scratch planned scratch′ verdict → length planned ≡ length lent
+call-length : {c : Cell} {r : Recipe} {lent scratch planned scratch′ : List ℕ} {verdict : Verdict}
+    → PlanCall c r lent scratch planned scratch′ verdict → length planned ≡ length lent
 call-length {c} {r} {lent} {scratch} {planned} call = go (checkPlan c r (length lent) (length scratch)) refl
   where
     go : (v : Verdict) → checkPlan c r (length lent) (length scratch) ≡ v → length planned ≡ length lent
-    go Accepted is = call .passed is .planned .same-length
+    go Accepted is = call .planned is .same-length
     go (Refused refusal line) is =
-        ap (λ (l : List ℕ). length l) (call .refused-first (refused-not is) .same-table)
+        ap (λ (l : List ℕ). length l) (call .untouched (refused-not is) .0)
 
 long-enough : (n : ℕ) → 90 ≤ n → rule14 (sizesOf benchCell benchRecipe) n ≡ Accepted
 unfolding rule14 noLine
@@ -151,13 +168,19 @@ example text output =
     let made = output .decided .planned (λ i. read i .verdict) (λ i. recipe-read i .verdict) in
     let call =
     subst (λ (x : CellReading). PlanCall (x .cell) benchRecipe (made .table) (made .scratch) (output .table) (made .scratch′) (output .decided .plan)) read
-    (subst (λ (x : RecipeReading). PlanCall (readCell (take 8192 (cellFile 5)) .cell) (x .recipe) (made .table) (made .scratch) (output .table) (made .scratch′) (output .decided .plan)) recipe-read
+    (subst
+    (λ (x : RecipeReading). PlanCall (readCell (take 8192 (cellFile 5)) .cell) (x .recipe) (made .table)
+    (made .scratch) (output .table) (made .scratch′) (output .decided .plan))
+    recipe-read
     (made .call)) in
-    let bench = table .of-bench-calls (made .table) (made .scratch) (output .table) (made .scratch′) (output .decided .plan) call (omega (arith, made .table-places)) (omega (arith, made .scratch-places)) in
+    let bench =
+    table .of-bench-calls (made .table) (made .scratch) (output .table) (made .scratch′) (output .decided .plan)
+    call (omega (arith, made .table-places)) (omega (arith, made .scratch-places)) in
     let accepted : output .verdict ≡ Accepted = output .decided .verdict-is ∙ passes (λ i. read i .verdict) (λ i. recipe-read i .verdict) (bench .accepted) in
     output .text-is
     ∙ (λ i. namesLine ++ below (accepted i) (printed (read i .cell) (recipe-read i .recipe) (output .table) freshRun outcomes))
-    ∙ four-moves (made .table) (made .scratch) (output .table) (made .scratch′) (output .decided .plan) call (omega (arith, made .table-places)) (omega (arith, made .scratch-places))
+    ∙ four-moves (made .table) (made .scratch) (output .table) (made .scratch′) (output .decided .plan) call
+    (omega (arith, made .table-places)) (omega (arith, made .scratch-places))
   where
     cell-reading : readCell (take 8192 (cellFile 5)) ≡ readCell (cellFile 5)
     cell-reading = ap readCell (computed .cell-start)

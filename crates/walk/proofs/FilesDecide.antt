@@ -39,7 +39,8 @@ pub none-handed : {verdict : Verdict} → verdict ≡ Accepted → 0 ≡ length 
 unfolding below
 none-handed is = rw is
 
-pub line-handed : {verdict : Verdict} {refusal : Refusal} {line number end handed : ℕ} {entry exit : List ℕ} → verdict ≡ Refused refusal line → number ≡ numberOf refusal
+pub line-handed : {verdict : Verdict} {refusal : Refusal} {line number end handed : ℕ} {entry exit : List ℕ}
+    → verdict ≡ Refused refusal line → number ≡ numberOf refusal
     → Put entry exit 0 (refusalLine number) end
     → handed ≡ length (take end exit)
     → handed ≡ length (below verdict [])
@@ -54,7 +55,8 @@ module _ (table : List ℕ) (cell : CellReading) (recipe : RecipeReading) (cell-
   judged-is : firstRefusal (cell .verdict ∷ recipe .verdict ∷ []) ≡ firstRefusal readings
   judged-is = λ i. firstRefusal (cell-read .1 i .verdict ∷ recipe-read .1 i .verdict ∷ [])
 
-  pub prepared-refused : (verdict : Verdict) {refusal : Refusal} {line : ℕ} → verdict ≡ firstRefusal (cell .verdict ∷ recipe .verdict ∷ []) → verdict ≡ Refused refusal line
+  pub prepared-refused : (verdict : Verdict) {refusal : Refusal} {line : ℕ}
+      → verdict ≡ firstRefusal (cell .verdict ∷ recipe .verdict ∷ []) → verdict ≡ Refused refusal line
       → Prepared table (record { verdict = verdict; cell = cell .cell; recipe = recipe .recipe })
   unfolding firstRefusal
   prepared-refused verdict is told =
@@ -72,7 +74,8 @@ module _ (table : List ℕ) (cell : CellReading) (recipe : RecipeReading) (cell-
         recipe-is = ap (λ (x : RecipeReading). x .recipe) (recipe-read .1);
       }
 
-  pub prepared-planned : (verdict plan : Verdict) (entry scratch scratch′ : List ℕ) → verdict ≡ firstRefusal (cell .verdict ∷ recipe .verdict ∷ []) → verdict ≡ Accepted
+  pub prepared-planned : (verdict plan : Verdict) (entry scratch scratch′ : List ℕ)
+      → verdict ≡ firstRefusal (cell .verdict ∷ recipe .verdict ∷ []) → verdict ≡ Accepted
       → length entry ≡ 8192
       → length scratch ≡ 8192
       → PlanCall (cell .cell) (recipe .recipe) entry scratch table scratch′ plan
@@ -92,7 +95,11 @@ module _ (table : List ℕ) (cell : CellReading) (recipe : RecipeReading) (cell-
                     scratch′ = scratch′;
                     table-places = long;
                     scratch-places = wide;
-                    call = subst (λ (x : CellReading). PlanCall (x .cell) (readRecipe (take 8192 (recipe-read .0)) .recipe) entry scratch table scratch′ plan) (cell-read .1)
+                    call =
+                        subst
+                        (λ (x : CellReading). PlanCall (x .cell) (readRecipe (take 8192 (recipe-read .0)) .recipe) entry
+                        scratch table scratch′ plan)
+                        (cell-read .1)
                         (subst (λ (x : RecipeReading). PlanCall (cell .cell) (x .recipe) entry scratch table scratch′ plan) (recipe-read .1) call);
                   };
             };

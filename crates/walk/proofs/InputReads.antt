@@ -1,6 +1,6 @@
 -- Reads of standard input, one after another. Assumes nothing.
 use mathlib.Core.Path.{_≡_, refl, sym, ap, _∙_}
-use mathlib.Core.Bool.{Bool, true, false, cond}
+use mathlib.Core.Bool.{Bool, true, false, cond, true≢false}
 use mathlib.Core.List.{List, [], _++_}
 use Prim.Native.Nat.{ℕ, _+_, _-_, _<_, _≤_}
 use native.Mathlib.Omega.{arith}
@@ -19,10 +19,6 @@ use Rattle.printout.proofs.InputInParts.{walked-parts, printed-parts}
 -- a prefix has as many bytes as it was cut to
 pub prefix-counts : (n : ℕ) (text : List ℕ) → n ≤ length text → n ≡ length (take n text)
 prefix-counts n text inside = sym (length-take-le n text inside)
-
--- a test has one answer
-pub never : {b : Bool} → b ≡ false → b ≡ true → ⊥
-never f t = let z : _≡_ {A = ℕ} 0 1 = cc in omega arith
 
 not-true-false : (b : Bool) → (b ≡ true → ⊥) → b ≡ false
 not-true-false true fails = absurd (fails refl)
@@ -60,13 +56,15 @@ module _ (c : Cell) (r : Recipe) (table : List ℕ) where
               text-inside = omega (arith, whole, answers .inside);
               text-is = lines-handed;
               run-is = answers .run-is;
-              more-is = λ some (kept : true ≡ false). absurd (never kept refl);
+              more-is = λ some (kept : true ≡ false). absurd (true≢false kept);
               ended = λ none. refl;
               failed-ends = λ failed. refl;
             }
 
         -- and one that was
-        pub step-written : (got ≡ 0 → ⊥) → Stepped c r table run bytes text (record { got = got; length = handed; failed = false; more = answer .more; run = answer .run })
+        pub step-written : (got ≡ 0 → ⊥)
+            → Stepped c r table run bytes text
+            (record { got = got; length = handed; failed = false; more = answer .more; run = answer .run })
         step-written some =
             record {
               bytes-inside = inside;
@@ -75,7 +73,7 @@ module _ (c : Cell) (r : Recipe) (table : List ℕ) where
               run-is = answers .run-is;
               more-is = λ here kept. answers .more-is;
               ended = λ none. absurd (some none);
-              failed-ends = λ (failed : false ≡ true). absurd (never refl failed);
+              failed-ends = λ (failed : false ≡ true). absurd (true≢false (sym failed));
             }
 
   -- while reads are left
@@ -89,19 +87,27 @@ module _ (c : Cell) (r : Recipe) (table : List ℕ) where
   pub following-none : (reads : ℕ) (run : Run) → run ≡ freshRun → Following reads reads (record { got = 0; length = 0; failed = false; more = true; run = run })
   unfolding walked
   following-none reads run fresh =
-      record { input = []; run-is = fresh; goes-on = λ on. refl; stops = λ (over : true ≡ false). absurd (never over refl); used = λ on. omega arith }
+      record {
+        input = [];
+        run-is = fresh;
+        goes-on = λ on. refl;
+        stops = λ (over : true ≡ false). absurd (true≢false over);
+        used = λ on. omega arith;
+      }
 
-  module _ (reads left : ℕ) (some : 0 < left) (before after : Step) (bytes text : List ℕ) (F : Following reads left before) (on : before .more ≡ true) (S : Stepped c r table (before .run) bytes text after) where
+  module _ (reads left : ℕ) (some : 0 < left) (before after : Step) (bytes text : List ℕ)
+      (F : Following reads left before) (on : before .more ≡ true)
+      (S : Stepped c r table (before .run) bytes text after) where
     joined : walked c r table freshRun (F .input ++ take (after .got) bytes) ≡ walked c r table (before .run) (take (after .got) bytes)
     joined =
         walked-parts c r table freshRun (F .input) (take (after .got) bytes)
         ∙ (λ i. cond (F .goes-on on i) (walked c r table (sym (F .run-is) i) (take (after .got) bytes)) (walked c r table freshRun (F .input)))
 
     came : after .more ≡ true → after .got ≡ 0 → ⊥
-    came more none = never (S .ended none) more
+    came more none = true≢false (sym more ∙ S .ended none)
 
     kept : after .more ≡ true → after .failed ≡ false
-    kept more = not-true-false (after .failed) (λ failed. never (S .failed-ends failed) more)
+    kept more = not-true-false (after .failed) (λ failed. true≢false (sym more ∙ S .failed-ends failed))
 
     -- what is handed over for a read is what the definition prints next
     pub handed-next : printed c r table freshRun (F .input ++ take (after .got) bytes) ≡ printed c r table freshRun (F .input) ++ take (after .length) text
@@ -127,4 +133,11 @@ module _ (c : Cell) (r : Recipe) (table : List ℕ) where
     followed-all none = record { input = F .input; run-is = F .run-is; goes-on = F .goes-on; stops = F .stops; used-up = λ more. omega (arith, F .used more) }
 
     pub followed-over : step .more ≡ false → Followed c r table reads step
-    followed-over over = record { input = F .input; run-is = F .run-is; goes-on = F .goes-on; stops = F .stops; used-up = λ more. absurd (never over more) }
+    followed-over over =
+        record {
+          input = F .input;
+          run-is = F .run-is;
+          goes-on = F .goes-on;
+          stops = F .stops;
+          used-up = λ more. absurd (true≢false (sym more ∙ over));
+        }

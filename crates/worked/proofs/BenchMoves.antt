@@ -1,14 +1,14 @@
 -- The bench example's sizes and moves, computed. Assumes nothing.
 use mathlib.Core.Path.{_≡_, refl}
-use Rattle.refusals.specs.Search.{firstBelow, anyBelow, allBelow, countBelow, greatestBelow, tabulate}
-use Rattle.cell.specs.Rules.{isOf, greatestResource}
-use Rattle.recipe.specs.Rules.{samePoint, holdsPart, opensPoint, pointCount}
+use Rattle.refusals.specs.Search.{firstBelow, anyBelow, allBelow, countBelow, greatestBelow, tabulate, isOf}
+use Rattle.cell.specs.Rules.{greatestResource}
+use Rattle.recipe.specs.Rules.{holdsPart, pointCount}
 use Rattle.positions.specs.Radix.{sumBelow, productBelow}
-use Rattle.positions.specs.Sizes.{resourceCount, farthest, stateCount, stateCounts, partsIn, partCount, jointCount, sizesFor}
-use Rattle.positions.specs.Position.{stateWeight, stateNumber, placeNumber, positionOf, pointAt, stateAt, placeAt, configurationAt}
-use Rattle.steps.specs.Lines.{isAt, firstLineOf, linesOf, kindOf, thenOf, elseOf, lineOf, inAny, isTaken, isGiven}
-use Rattle.steps.specs.Joint.{mayDo, acts, actsOn, howMany, portFits, isStep, isSilent, isSilentStep, stateAfter, receiver, handed, placeAfter, after}
-use Rattle.steps.specs.Carry.{serves, matches, standsAt, present, isFree, free, carriesDo, carriesTest, carries, putThere, placed, partsMoved, afterCarry}
+use Rattle.positions.specs.Sizes.{stateCount, stateCounts, partsIn, partCount, jointCount, sizesFor, farthest}
+use Rattle.positions.specs.Position.{stateNumber, placeNumber, positionOf, stateWeight, pointAt, stateAt, placeAt, configurationAt}
+use Rattle.steps.specs.Lines.{firstLineOf, linesOf, kindOf, thenOf, elseOf, isTaken, isGiven}
+use Rattle.steps.specs.Joint.{mayDo, acts, actsOn, howMany, portFits, isStep, isSilentStep, stateAfter, receiver, handed, placeAfter, after, isSilent}
+use Rattle.steps.specs.Carry.{serves, matches, standsAt, present, free, carries, putThere, placed, partsMoved, afterCarry, isFree}
 use Rattle.steps.specs.Entry.{entryKind, letter, unused, lettersUsed, isLine, isFormed, only, stepOf, mayBeTaken}
 use Rattle.steps.specs.Effect.{taken, effect, isMove, opens, leaves, makes, leadsTo}
 use Rattle.worked.specs.Moves.{filled, benchCell, benchRecipe, benchSizes, next}
@@ -29,12 +29,12 @@ pub record Moves : Type 0 where
   pub taken-out : next 68 50331652 0 ≡ 0
 
 pub moves : Moves
-unfolding firstBelow anyBelow allBelow countBelow greatestBelow tabulate isOf greatestResource samePoint holdsPart opensPoint pointCount sumBelow
-    productBelow resourceCount farthest stateCount stateCounts partsIn partCount jointCount sizesFor stateWeight stateNumber placeNumber positionOf
-    pointAt stateAt placeAt configurationAt isAt firstLineOf linesOf kindOf thenOf elseOf lineOf inAny isTaken isGiven filled benchCell benchRecipe
-    benchSizes next mayDo acts actsOn howMany portFits isStep isSilent isSilentStep stateAfter receiver handed placeAfter after serves matches
-    standsAt present isFree free carriesDo carriesTest carries putThere placed partsMoved afterCarry entryKind letter unused lettersUsed isLine
-    isFormed only stepOf mayBeTaken taken effect isMove opens leaves makes leadsTo
+unfolding isOf firstBelow anyBelow allBelow countBelow greatestBelow tabulate greatestResource holdsPart pointCount sumBelow productBelow
+    stateCount stateCounts partsIn partCount jointCount sizesFor stateNumber placeNumber positionOf stateWeight pointAt stateAt placeAt
+    configurationAt firstLineOf linesOf kindOf thenOf elseOf isTaken isGiven filled benchCell benchRecipe next mayDo acts actsOn howMany
+    portFits isStep isSilentStep stateAfter receiver handed placeAfter after serves matches standsAt present free carries putThere placed
+    partsMoved afterCarry entryKind letter unused lettersUsed isLine isFormed only stepOf mayBeTaken taken effect isMove opens leaves makes
+    leadsTo farthest isSilent isFree
 moves =
     record {
       joint-states = refl;

@@ -2,15 +2,14 @@
 use mathlib.Core.Path.{_≡_, refl}
 use Rattle.refusals.specs.declared.Verdict.the-variants.{Accepted, Refused}
 use Rattle.refusals.specs.declared.Refusal.the-variants.{NoPartner}
-use Rattle.refusals.specs.Search.{firstBelow, anyBelow, countBelow, greatestBelow, tabulate}
-use Rattle.refusals.specs.Verdict.{firstRefusal, lineVerdict, firstLine, noLine, rule3}
-use Rattle.tables.specs.Lines.{upTo, past, lengthened, parted, ended, last, lines, unended, valueText, valueLines}
-use Rattle.tables.specs.Numbers.{isDigit, areDigits, isNumber, decimal, fields, areNumbers, isRow, numbers}
+use Rattle.refusals.specs.Search.{firstBelow, anyBelow, countBelow, greatestBelow, tabulate, isOf, every}
+use Rattle.refusals.specs.Verdict.{firstRefusal, firstLine, noLine, ifAccepted, rule3}
+use Rattle.tables.specs.Lines.{lengthened, parted, lines, valueLines, shownLine, extent}
+use Rattle.tables.specs.Numbers.{isDigit, isNumber, decimal, isRow}
 use Rattle.tables.specs.Table.{starts, rule1, firstBroken, isBroken, rule2, numberAt, column}
 use Rattle.cell.specs.Rules as cell
-use Rattle.cell.specs.Reader.{cellNames, cellOf, judgeCell, reading, readCell}
+use Rattle.cell.specs.Reader.{cellNames, cellOf, judgeCell, readCell}
 use Rattle.recipe.specs.Rules as recipe
-use Rattle.recipe.specs.Reader as recipe-reader
 use Rattle.recipe.specs.Reader.{recipeNames, recipeOf, judgeRecipe, readRecipe}
 use Rattle.worked.specs.Bench.{digits, row, rows, cellFile, recipeWith, recipeFile, deadFile, endFile, limitCellFile, limitRecipeFile}
 use Rattle.worked.specs.Moves.{filled, benchCell, benchRecipe, limitCell, limitRecipe}
@@ -30,14 +29,14 @@ pub record Files : Type 0 where
   pub limit-recipe-read : readRecipe limitRecipeFile ≡ record { verdict = Accepted; recipe = limitRecipe }
 
 pub files : Files
-unfolding firstBelow anyBelow countBelow greatestBelow tabulate firstRefusal lineVerdict firstLine noLine rule3 upTo past lengthened parted ended last lines
-    unended valueText valueLines isDigit areDigits isNumber decimal fields areNumbers isRow numbers starts rule1 firstBroken isBroken rule2 numberAt column
-    cell.inRange cell.leavesRange cell.rule4 cell.isOf cell.greatestResource cell.hasNoLine cell.gap cell.rule5 cell.otherAct cell.partner cell.inOrOut cell.unpaired
-    cell.rule6 cell.afterRange cell.cellRules cellNames cellOf judgeCell reading readCell recipe.inRange recipe.leavesRange recipe.rule4 recipe.breaksOrder recipe.rule7 recipe.samePoint recipe.clashes
-    recipe.breaksRepeat recipe.rule8 recipe.hasUnused recipe.breaksUnused recipe.rule9 recipe.lacksParts recipe.breaksParts recipe.rule10 recipe.holdsPart recipe.common
-    recipe.sharesPart recipe.breaksCommon recipe.rule11 recipe.opensPoint recipe.pointCount recipe.leadsOut recipe.breaksTarget recipe.rule12 recipe.afterRange
-    recipe.recipeRules recipeNames recipeOf judgeRecipe recipe-reader.reading readRecipe digits row rows cellFile
-    recipeWith recipeFile deadFile endFile limitCellFile limitRecipeFile filled benchCell benchRecipe deadRecipe endRecipe limitCell limitRecipe
+unfolding isOf firstBelow anyBelow countBelow greatestBelow tabulate firstRefusal firstLine noLine ifAccepted rule3 lengthened parted lines
+    valueLines shownLine extent isDigit every isNumber decimal isRow starts rule1 firstBroken isBroken rule2 numberAt column
+    cell.leavesRange cell.rule4 cell.greatestResource cell.rule5 cell.otherAct cell.partner cell.unpaired cell.rule6 cell.cellRules
+    cellNames cellOf judgeCell readCell recipe.leavesRange recipe.rule4 recipe.breaksOrder recipe.rule7 recipe.clashes recipe.breaksRepeat
+    recipe.rule8 recipe.breaksUnused recipe.rule9 recipe.lacksParts recipe.rule10 recipe.holdsPart recipe.common recipe.sharesPart
+    recipe.rule11 recipe.pointCount recipe.leadsOut recipe.rule12 recipe.recipeRules recipeNames recipeOf judgeRecipe readRecipe digits row
+    rows cellFile recipeWith recipeFile deadFile endFile limitCellFile limitRecipeFile filled benchCell benchRecipe deadRecipe endRecipe
+    limitCell limitRecipe cell.inRange cell.gap cell.hasNoLine recipe.inRange recipe.hasUnused
 files =
     record {
       cell-read = refl;

@@ -2,12 +2,12 @@
 use mathlib.Core.Path.{_≡_, refl}
 use Rattle.refusals.specs.declared.Verdict.the-variants.{Accepted, Refused}
 use Rattle.refusals.specs.declared.Refusal.the-variants.{TooManyPositions}
-use Rattle.refusals.specs.Search.{firstBelow, anyBelow, countBelow, greatestBelow, tabulate}
-use Rattle.refusals.specs.Verdict.{firstRefusal, lineVerdict, firstLine, noLine, rule3}
+use Rattle.refusals.specs.Search.{firstBelow, anyBelow, countBelow, greatestBelow, tabulate, isOf}
+use Rattle.refusals.specs.Verdict.{firstRefusal, firstLine, noLine, rule3}
 use Rattle.cell.specs.Rules as cell
 use Rattle.recipe.specs.Rules as recipe
 use Rattle.positions.specs.Radix.{productBelow}
-use Rattle.positions.specs.Sizes.{resourceCount, farthest, stateCount, stateCounts, partsIn, partCount, jointCount, sizesFor, sizesOf}
+use Rattle.positions.specs.Sizes.{stateCount, stateCounts, partsIn, partCount, jointCount, sizesFor, sizesOf, farthest}
 use Rattle.positions.specs.Rules.{recordRules, rule13, checkSizes}
 use Rattle.worked.specs.Moves.{filled, limitCell, limitRecipe}
 
@@ -17,10 +17,10 @@ pub record Limit : Type 0 where
   pub fifth-state : checkSizes (limitCell 4) limitRecipe ≡ Refused TooManyPositions 0
 
 pub limit : Limit
-unfolding firstBelow anyBelow countBelow greatestBelow tabulate firstRefusal lineVerdict firstLine noLine rule3 cell.inRange cell.leavesRange cell.rule4 cell.isOf
-    cell.greatestResource cell.hasNoLine cell.gap cell.rule5 cell.otherAct cell.partner cell.inOrOut cell.unpaired cell.rule6 cell.afterRange cell.cellRules recipe.inRange
-    recipe.leavesRange recipe.rule4 recipe.breaksOrder recipe.rule7 recipe.samePoint recipe.clashes recipe.breaksRepeat recipe.rule8 recipe.hasUnused
-    recipe.breaksUnused recipe.rule9 recipe.lacksParts recipe.breaksParts recipe.rule10 recipe.holdsPart recipe.common recipe.sharesPart recipe.breaksCommon
-    recipe.rule11 recipe.opensPoint recipe.pointCount recipe.leadsOut recipe.breaksTarget recipe.rule12 recipe.afterRange recipe.recipeRules productBelow
-    resourceCount farthest stateCount stateCounts partsIn partCount jointCount sizesFor recordRules rule13 checkSizes filled limitCell limitRecipe
+unfolding isOf firstBelow anyBelow countBelow greatestBelow tabulate firstRefusal firstLine noLine rule3 cell.leavesRange cell.rule4
+    cell.greatestResource cell.rule5 cell.otherAct cell.partner cell.unpaired cell.rule6 cell.cellRules recipe.leavesRange recipe.rule4
+    recipe.breaksOrder recipe.rule7 recipe.clashes recipe.breaksRepeat recipe.rule8 recipe.breaksUnused recipe.rule9 recipe.lacksParts
+    recipe.rule10 recipe.holdsPart recipe.common recipe.sharesPart recipe.rule11 recipe.pointCount recipe.leadsOut recipe.rule12
+    recipe.recipeRules productBelow stateCount stateCounts partsIn partCount jointCount sizesFor recordRules rule13 checkSizes filled
+    limitCell limitRecipe cell.inRange cell.gap cell.hasNoLine recipe.inRange recipe.hasUnused farthest
 limit = record { reached = refl; four-pass = refl; fifth-state = refl }

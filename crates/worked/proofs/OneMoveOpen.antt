@@ -7,20 +7,18 @@ use Prim.Native.Nat.{ℕ, _+_, _*_, _<_}
 use lib.ListN.{getD}
 use lib.Dec.{eqb}
 use borrow.Author.Tests.{eqb-true}
-use Rattle.refusals.specs.declared.Verdict.the-variants.{Accepted}
 use Rattle.refusals.specs.Search.{allBelow}
 use Rattle.refusals.proofs.EveryBelow.{all-at}
 use Rattle.refusals.proofs.TabulatedLists.{length-tabulate}
 use Rattle.refusals.proofs.Verdicts.{and-left, and-right}
 use Rattle.cell.specs.declared.Cell.{Cell}
-use Rattle.cell.specs.Rules.{checkCell}
 use Rattle.recipe.specs.declared.Recipe.{Recipe}
-use Rattle.recipe.specs.Rules.{checkRecipe}
 use Rattle.positions.specs.declared.Configuration.{Configuration}
-use Rattle.positions.specs.Sizes.{sizesOf}
+use Rattle.positions.specs.declared.Sizes.{Sizes}
 use Rattle.positions.specs.Position.{pointAt, configurationAt, entryOf}
 use Rattle.positions.proofs.PositionNumbers.{position-fits, number-back}
-use Rattle.positions.proofs.SizeBounds.{fitting}
+use Rattle.positions.specs.Checked.{Checked}
+use Rattle.positions.proofs.CheckedSizes.{checked-fits}
 use Rattle.steps.specs.Lines.{linesOf, kindOf}
 use Rattle.steps.specs.Entry.{entryKind, letter, isFormed}
 use Rattle.steps.specs.Effect.{opens}
@@ -69,45 +67,55 @@ module _ (c : Cell) (r : Recipe) (p : ℕ) (a : Configuration) (e x : ℕ) (one 
       transfer : entryKind e ≡ 2 → e ≡ x
       transfer kind =
           let listed = formed-transfer c r p e formed kind in
-          let row = all-at (λ l. allBelow (λ k. isSole (opens c r p a (33554432 + l + 64 * k)) (33554432 + l + 64 * k) x) (c .count)) (c .count) (letter e 0) (and-left _ _ (and-right (allBelow (λ l. isSole (opens c r p a (16777216 + l)) (16777216 + l) x) (c .count)) _ test)) (listed .0) in
-          open-at _ (listed .2) (all-at (λ k. isSole (opens c r p a (33554432 + letter e 0 + 64 * k)) (33554432 + letter e 0 + 64 * k) x) (c .count) (letter e 1) row (listed .1))
+          let row =
+          all-at
+          (λ l. allBelow (λ k. isSole (opens c r p a (33554432 + l + 64 * k)) (33554432 + l + 64 * k) x) (c .count))
+          (c .count) (letter e 0)
+          (and-left _ _
+          (and-right (allBelow (λ l. isSole (opens c r p a (16777216 + l)) (16777216 + l) x) (c .count)) _ test))
+          (listed .0) in
+          open-at _ (listed .2)
+          (all-at (λ k. isSole (opens c r p a (33554432 + letter e 0 + 64 * k)) (33554432 + letter e 0 + 64 * k) x)
+          (c .count) (letter e 1) row (listed .1))
 
       carry : entryKind e ≡ 3 → e ≡ x
       carry kind =
           let listed = formed-carry c r p e formed one kind in
-          open-at _ (listed .1) (all-at (λ l. isSole (opens c r p a (50331648 + l)) (50331648 + l) x) (c .count) (letter e 0) (search (and-left, and-right)) (listed .0))
+          open-at _ (listed .1)
+          (all-at (λ l. isSole (opens c r p a (50331648 + l)) (50331648 + l) x) (c .count) (letter e 0)
+          (search (and-left, and-right)) (listed .0))
 
 -- position m is in the greatest simulation, and has one open move: so every plan has it there
 module _
-    (c : Cell) (r : Recipe) (ok : checkCell c ≡ Accepted) (fine : checkRecipe r ≡ Accepted)
-    (before table : List ℕ) (refused : Bool) (plan : Planned c r before table refused)
-    (m : ℕ) (low : m < sizesOf c r .positions)
+    (c : Cell) (r : Recipe) (z : Sizes) (K : Checked c r z)
+    (before table : List ℕ) (refused : Bool) (plan : Planned c r z before table refused)
+    (m : ℕ) (low : m < z .positions)
   where
     abbrev point : ℕ
-    point = pointAt (sizesOf c r) m
+    point = pointAt z m
 
     abbrev configuration : Configuration
-    configuration = configurationAt (sizesOf c r) m
+    configuration = configurationAt z m
 
-    pub here : Position c r point configuration
+    pub here : Position z point configuration
     unfolding configurationAt
-    here = record { in-range = position-fits (sizesOf c r) (fitting c r ok fine) m low; six = length-tabulate _ 6; eight = length-tabulate _ 8 }
+    here = record { in-range = position-fits z (checked-fits c r z K) m low; six = length-tabulate _ 6; eight = length-tabulate _ 8 }
 
-    pub entry-at : entryOf c r table point configuration ≡ getD table m 0
+    pub entry-at : entryOf z table point configuration ≡ getD table m 0
     unfolding entryOf
-    entry-at = ap (λ (k : ℕ). getD table k 0) (number-back (sizesOf c r) (fitting c r ok fine) m low)
+    entry-at = ap (λ (k : ℕ). getD table k 0) (number-back z (checked-fits c r z K) m low)
 
     pub forced :
         (x : ℕ)
-        → Greatest c r point configuration
+        → Greatest c r z point configuration
         → (kindOf r point ≡ 0 → ⊥)
         → linesOf r point ≡ 1
         → soleAt c r point configuration x ≡ true
         → getD table m 0 ≡ x
     unfolding opened
     forced x held some one sole =
-        let alive : entryOf c r table point configuration ≡ 0 → ⊥ = λ zero. plan .zero-lacks point configuration here zero held in
-        let able : opens c r point configuration (entryOf c r table point configuration) ≡ true =
-        sym (book-is c r ok fine .open-is (opened point configuration) (entryOf c r table point configuration))
-        ∙ plan-opens c r table point configuration (plan .promises point configuration here alive (asks ∷ [])) in
-        sym entry-at ∙ sole-open c r point configuration (entryOf c r table point configuration) x one some sole able
+        let alive : entryOf z table point configuration ≡ 0 → ⊥ = λ zero. plan .zero-lacks point configuration here zero held in
+        let able : opens c r point configuration (entryOf z table point configuration) ≡ true =
+        sym (book-is c r z K .open-is (opened point configuration) (entryOf z table point configuration))
+        ∙ plan-opens c r z table point configuration (plan .promises point configuration here alive (asks ∷ [])) in
+        sym entry-at ∙ sole-open c r point configuration (entryOf z table point configuration) x one some sole able

@@ -11,36 +11,37 @@ use borrow.Author.Tests.{lt-ltb, le-ltb, eqb-true, eqb-false, not-true}
 use Rattle.refusals.specs.declared.Refusal.the-variants.{TooShort, NotRealisable}
 use Rattle.refusals.specs.declared.Verdict.{Verdict}
 use Rattle.refusals.specs.declared.Verdict.the-variants.{Accepted, Refused}
-use Rattle.refusals.specs.Search.{firstBelow, anyBelow, allBelow, countBelow, greatestBelow, tabulate}
+use Rattle.refusals.specs.Search.{firstBelow, anyBelow, allBelow, countBelow, greatestBelow, tabulate, isOf}
 use Rattle.refusals.proofs.Verdicts.{and-left, and-right, refused-not, noLine-broken, noLine-kept}
-use Rattle.refusals.proofs.Rules.{accepts, decides, part-accepts}
+use Rattle.refusals.proofs.Rules.{refuses, accepts, decides, part-accepts}
 use Rattle.cell.specs.declared.Cell.{Cell}
 use Rattle.cell.specs.Rules as cell
 use Rattle.recipe.specs.declared.Recipe.{Recipe}
 use Rattle.recipe.specs.Rules as recipe
 use Rattle.positions.specs.Radix.{sumBelow, productBelow}
-use Rattle.positions.specs.Sizes.{resourceCount, farthest, stateCount, stateCounts, partsIn, partCount, jointCount, sizesFor, sizesOf}
-use Rattle.positions.specs.Position.{stateWeight, stateNumber, placeNumber, positionOf, pointAt, stateAt, placeAt, configurationAt}
+use Rattle.positions.specs.Sizes.{stateCount, stateCounts, partsIn, partCount, jointCount, sizesFor, sizesOf, farthest}
+use Rattle.positions.specs.Position.{stateNumber, placeNumber, positionOf, stateWeight, pointAt, stateAt, placeAt, configurationAt}
 use Rattle.positions.specs.Rules.{recordRules, checkRecords, checkSizes, rule14}
 use Rattle.positions.proofs.AcceptedRecords.{records-ok, few-ok}
-use Rattle.steps.specs.Lines.{isAt, firstLineOf, linesOf, kindOf, thenOf, elseOf, lineOf, inAny, isTaken, isGiven}
-use Rattle.steps.specs.Joint.{mayDo, acts, actsOn, howMany, portFits, isStep, isSilent, isSilentStep, stateAfter, receiver, handed, placeAfter, after}
-use Rattle.steps.specs.Carry.{serves, matches, standsAt, present, isFree, free, carriesDo, carriesTest, carries, putThere, placed, partsMoved, afterCarry}
+use Rattle.steps.specs.Lines.{firstLineOf, linesOf, kindOf, thenOf, elseOf, isTaken, isGiven}
+use Rattle.steps.specs.Joint.{mayDo, acts, actsOn, howMany, portFits, isStep, isSilentStep, stateAfter, receiver, handed, placeAfter, after, isSilent}
+use Rattle.steps.specs.Carry.{serves, matches, standsAt, present, free, carries, putThere, placed, partsMoved, afterCarry, isFree}
 use Rattle.steps.specs.Entry.{entryKind, letter, unused, lettersUsed, isLine, isFormed, only, stepOf, mayBeTaken}
 use Rattle.steps.specs.Effect.{taken, effect, isMove, opens, leaves, makes, leadsTo}
-use Rattle.planner.specs.Call.{scratchLength, rule14Scratch, lentRules, planRules, checkPlan, Filled, PlanCall}
+use Rattle.simulation.specs.Plan.{Planned}
+use Rattle.planner.specs.Call.{lentRules, rule14Scratch, checkPlan, PlanCall}
 use Rattle.planner.proofs.Demands.{realisable-accepted, unrealisable-refused}
-use Rattle.worked.specs.Moves.{filled, benchCell, benchRecipe, benchEntry, benchTable}
+use Rattle.worked.specs.Moves.{filled, benchCell, benchRecipe, benchSizes, benchEntry, benchTable}
 use Rattle.worked.specs.Plans.{deadRecipe, endRecipe}
-use Rattle.worked.proofs.BenchPlan.{computed, bench-planned, entry-one, entry-last, dead-recipe, one-end}
+use Rattle.worked.proofs.BenchPlan.{computed, bench-checked, bench-planned, entry-one, entry-last, dead-recipe, one-end}
 use Rattle.worked.proofs.OneMoveOpen.{isSole, soleAt, here, entry-at, forced}
 
 -- a do or test of one line at which the bench example's table has the entry x, and no other move is open
 sole : ℕ → ℕ → Bool
 sole m x =
-    let p = pointAt (sizesOf benchCell benchRecipe) m in
+    let p = pointAt benchSizes m in
     not (eqb (kindOf benchRecipe p) 0)
-    && (eqb (linesOf benchRecipe p) 1 && (eqb (getD benchTable m 0) x && soleAt benchCell benchRecipe p (configurationAt (sizesOf benchCell benchRecipe) m) x))
+    && (eqb (linesOf benchRecipe p) 1 && (eqb (getD benchTable m 0) x && soleAt benchCell benchRecipe p (configurationAt benchSizes m) x))
 
 record Sole : Type 0 where
   glued : sole 0 50331648 ≡ true
@@ -52,13 +53,12 @@ record Sole : Type 0 where
   end-positions : sizesOf benchCell endRecipe .positions ≡ 6
 
 soles : Sole
-unfolding firstBelow anyBelow allBelow countBelow greatestBelow tabulate cell.isOf cell.greatestResource recipe.samePoint recipe.holdsPart
-    recipe.opensPoint recipe.pointCount sumBelow productBelow resourceCount farthest stateCount stateCounts partsIn partCount jointCount sizesFor
-    stateWeight stateNumber placeNumber positionOf pointAt stateAt placeAt configurationAt isAt firstLineOf linesOf kindOf thenOf elseOf lineOf inAny
-    isTaken isGiven isSole soleAt sole filled benchCell benchRecipe benchEntry benchTable deadRecipe endRecipe mayDo acts actsOn howMany portFits
-    isStep isSilent isSilentStep stateAfter receiver handed placeAfter after serves matches standsAt present isFree free carriesDo carriesTest carries
-    putThere placed partsMoved afterCarry entryKind letter unused lettersUsed isLine isFormed only stepOf mayBeTaken taken effect isMove
-    opens leaves makes leadsTo
+unfolding isOf firstBelow anyBelow allBelow countBelow greatestBelow tabulate cell.greatestResource recipe.holdsPart recipe.pointCount
+    sumBelow productBelow stateCount stateCounts partsIn partCount jointCount sizesFor stateNumber placeNumber positionOf stateWeight
+    pointAt stateAt placeAt configurationAt firstLineOf linesOf kindOf thenOf elseOf isTaken isGiven isSole soleAt sole filled benchCell
+    benchRecipe benchEntry benchTable deadRecipe endRecipe mayDo acts actsOn howMany portFits isStep isSilentStep stateAfter receiver handed
+    placeAfter after serves matches standsAt present free carries putThere placed partsMoved afterCarry entryKind letter unused lettersUsed
+    isLine isFormed only stepOf mayBeTaken taken effect isMove opens leaves makes leadsTo farthest isSilent isFree
 soles =
     record {
       glued = refl;
@@ -73,16 +73,18 @@ soles =
 -- the rules before 15, for lent lengths
 module _ (c : Cell) (r : Recipe) (sized : checkSizes c r ≡ Accepted) (table scratch : ℕ) (long : sizesOf c r .positions ≤ table) where
   checked : {v : Verdict} → v ≡ rule14Scratch (sizesOf c r) scratch → checkPlan c r table scratch ≡ v
-  unfolding checkRecords checkPlan planRules lentRules rule14
+  unfolding checkRecords checkPlan lentRules rule14
   checked e =
-      sym (part-accepts (recordRules c r) (lentRules (sizesOf c r) table scratch) refl (records-ok c r sized) (accepts _ refl (few-ok c r sized) (accepts _ refl (noLine-kept TooShort _ (le-ltb _ _ long)) (decides e))))
+      sym
+      (part-accepts (recordRules c r) (lentRules (sizesOf c r) table scratch) refl (records-ok c r sized)
+      (accepts _ refl (few-ok c r sized) (accepts _ refl (noLine-kept TooShort _ (le-ltb _ _ long)) (decides e))))
 
   check-passes : sizesOf c r .positions ≤ scratch → checkPlan c r table scratch ≡ Accepted
-  unfolding rule14Scratch scratchLength
+  unfolding rule14Scratch
   check-passes wide = checked (sym (noLine-kept TooShort _ (le-ltb _ _ wide)))
 
   check-short : scratch < sizesOf c r .positions → checkPlan c r table scratch ≡ Refused TooShort 0
-  unfolding rule14Scratch scratchLength
+  unfolding rule14Scratch
   check-short narrow = checked (sym (noLine-broken TooShort _ (lt-ltb _ _ narrow)))
 
 -- what every call on the bench example leaves
@@ -101,31 +103,35 @@ pub record Bench (table : List ℕ) (verdict : Verdict) : Type 0 where
 
 module _ (table scratch table′ scratch′ : List ℕ) (verdict : Verdict) where
   module _ (call : PlanCall benchCell benchRecipe table scratch table′ scratch′ verdict) (long : 90 ≤ length table) where
-    fits : sizesOf benchCell benchRecipe .positions ≤ length table
+    fits : benchSizes .positions ≤ length table
     fits = omega (arith, computed .positions)
 
     -- ‡ "scratch 89 gives 14", and any shorter one
     pub short-scratch : length scratch ≤ 89 → verdict ≡ Refused TooShort 0
     short-scratch narrow =
         let is = check-short benchCell benchRecipe (computed .sized) (length table) (length scratch) fits (omega (arith, computed .positions)) in
-        call .refused-first (refused-not is) .answer ∙ is
+        call .answer ∙ sym (refuses _ refl is) ∙ is
 
     -- ‡ "90 passes"
     module _ (wide : 90 ≤ length scratch) where
       passes : checkPlan benchCell benchRecipe (length table) (length scratch) ≡ Accepted
       passes = check-passes benchCell benchRecipe (computed .sized) (length table) (length scratch) fits (omega (arith, computed .positions))
 
-      plan : Filled benchCell benchRecipe table scratch table′ scratch′ verdict
-      plan = call .passed passes
+      plan : Planned benchCell benchRecipe benchSizes table table′ (call .refused)
+      plan = call .planned passes
 
       move : (m x : ℕ) → m < 90 → 0 < x → sole m x ≡ true → getD table′ m 0 ≡ x
       unfolding sole
       move m x low some test =
-          let under : m < sizesOf benchCell benchRecipe .positions = omega (arith, computed .positions) in
-          let at-m = here benchCell benchRecipe (computed .cell-passes) (computed .recipe-passes) benchTable benchTable false bench-planned m under in
+          let under : m < benchSizes .positions = omega (arith, computed .positions) in
+          let at-m = here benchCell benchRecipe benchSizes bench-checked benchTable benchTable false bench-planned m under in
           let is : getD benchTable m 0 ≡ x = eqb-true _ x (search (and-left, and-right)) in
-          forced benchCell benchRecipe (computed .cell-passes) (computed .recipe-passes) table table′ (plan .refused) (plan .planned) m under x
-          (bench-planned .entry-holds _ _ at-m (λ zero. omega (arith, is, sym (entry-at benchCell benchRecipe (computed .cell-passes) (computed .recipe-passes) benchTable benchTable false bench-planned m under) ∙ zero)))
+          forced benchCell benchRecipe benchSizes bench-checked table table′ (call .refused) plan m under x
+          (bench-planned .entry-holds _ _ at-m (λ zero. omega (
+            arith,
+            is,
+            sym (entry-at benchCell benchRecipe benchSizes bench-checked benchTable benchTable false bench-planned m under) ∙ zero,
+          )))
           (eqb-false _ 0 (not-true _ (and-left _ _ test)))
           (eqb-true _ 1 (search (and-left, and-right)))
           (search (and-left, and-right))
@@ -139,8 +145,8 @@ module _ (table scratch table′ scratch′ : List ℕ) (verdict : Verdict) wher
             entry-26 = move 26 50331651 (omega arith) (omega arith) (soles .tested);
             entry-50 = move 50 50331652 (omega arith) (omega arith) (soles .left);
             entry-68 = move 68 50331652 (omega arith) (omega arith) (soles .taken-out);
-            entry-72 = entry-last table table′ (plan .refused) (plan .planned);
-            entry-1 = entry-one table table′ (plan .refused) (plan .planned);
+            entry-72 = entry-last table table′ (call .refused) plan;
+            entry-1 = entry-one table table′ (call .refused) plan;
           }
 
       -- a planner that "answers 15 always" does not keep the contract
@@ -159,7 +165,8 @@ module _ (table scratch table′ scratch′ : List ℕ) (verdict : Verdict) wher
       → verdict ≡ Refused NotRealisable 0
   dead-called call long wide =
       unrealisable-refused benchCell deadRecipe table scratch table′ scratch′ verdict call
-      (check-passes benchCell deadRecipe (computed .dead-sized) (length table) (length scratch) (omega (arith, soles .dead-positions)) (omega (arith, soles .dead-positions)))
+      (check-passes benchCell deadRecipe (computed .dead-sized) (length table) (length scratch)
+      (omega (arith, soles .dead-positions)) (omega (arith, soles .dead-positions)))
       dead-recipe
 
   -- ‡ "a recipe of one end is accepted"
@@ -170,5 +177,6 @@ module _ (table scratch table′ scratch′ : List ℕ) (verdict : Verdict) wher
       → verdict ≡ Accepted
   end-called call long wide =
       realisable-accepted benchCell endRecipe table scratch table′ scratch′ verdict call
-      (check-passes benchCell endRecipe (computed .end-sized) (length table) (length scratch) (omega (arith, soles .end-positions)) (omega (arith, soles .end-positions)))
+      (check-passes benchCell endRecipe (computed .end-sized) (length table) (length scratch)
+      (omega (arith, soles .end-positions)) (omega (arith, soles .end-positions)))
       one-end

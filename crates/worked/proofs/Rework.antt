@@ -3,10 +3,10 @@
 use mathlib.Core.Path.{_≡_, refl, sym, ap, _∙_}
 use Prim.Native.Nat.{ℕ}
 use native.Mathlib.Omega.{arith}
-use Rattle.refusals.specs.Search.{firstBelow}
+use Rattle.refusals.specs.Search.{firstBelow, isOf}
 use Rattle.positions.specs.declared.Configuration.{Configuration}
 use Rattle.positions.specs.Position.{start}
-use Rattle.steps.specs.Lines.{isAt, firstLineOf, kindOf, thenOf, elseOf}
+use Rattle.steps.specs.Lines.{firstLineOf, kindOf, thenOf, elseOf}
 use Rattle.simulation.specs.Simulation.{Realisable}
 use Rattle.worked.specs.Moves.{filled, benchCell, benchRecipe}
 use Rattle.worked.specs.LeastSet.{Least, at-end, goes-on}
@@ -27,7 +27,7 @@ record Computed : Type 0 where
   out-then : thenOf benchRecipe 3 ≡ 0
 
 computed : Computed
-unfolding firstBelow isAt firstLineOf kindOf thenOf elseOf filled benchRecipe
+unfolding isOf firstBelow firstLineOf kindOf thenOf elseOf filled benchRecipe
 computed = record { first-kind = refl; first-then = refl; test-kind = refl; test-else = refl; out-kind = refl; out-then = refl }
 
 looping-goes : (p : ℕ) → Looping p → kindOf benchRecipe p ≡ 0 → ⊥
@@ -38,10 +38,12 @@ looping-goes p (taken-out is) none = omega (arith, computed .out-kind, sym (ap (
 -- some outcome always leads on in the loop, so no member of the least set is in it
 loop-lacks : {p : ℕ} {a : Configuration} → Least benchCell benchRecipe p a → Looping p → ⊥
 loop-lacks {p} (at-end none) loops = looping-goes p loops none
-loop-lacks {p} (goes-on passed failed some leads then else) (made is) = loop-lacks then (tested (ap (thenOf benchRecipe) is ∙ computed .first-then))
-loop-lacks {p} (goes-on passed failed some leads then else) (tested is) =
+loop-lacks {p} (goes-on step lines some silently carrying then else) (made is) =
+    loop-lacks then (tested (ap (thenOf benchRecipe) is ∙ computed .first-then))
+loop-lacks {p} (goes-on step lines some silently carrying then else) (tested is) =
     loop-lacks (else (ap (kindOf benchRecipe) is ∙ computed .test-kind)) (taken-out (ap (elseOf benchRecipe) is ∙ computed .test-else))
-loop-lacks {p} (goes-on passed failed some leads then else) (taken-out is) = loop-lacks then (made (ap (thenOf benchRecipe) is ∙ computed .out-then))
+loop-lacks {p} (goes-on step lines some silently carrying then else) (taken-out is) =
+    loop-lacks then (made (ap (thenOf benchRecipe) is ∙ computed .out-then))
 
 pub record Rework : Type 0 where
   pub least-lacks : Least benchCell benchRecipe 0 start → ⊥

@@ -10,12 +10,13 @@ use Rattle.refusals.specs.declared.Refusal.the-variants.{TooShort, NotRealisabl
 use Rattle.refusals.specs.declared.Verdict.{Verdict}
 use Rattle.refusals.specs.declared.Verdict.the-variants.{Accepted, Refused}
 use Rattle.refusals.specs.Search.{countBelow}
+use Rattle.positions.specs.Sizes.{sizesOf}
 use Rattle.positions.specs.Position.{start}
 use Rattle.positions.specs.Rules.{checkSizes}
 use Rattle.run.specs.Promises.{Promises}
 use Rattle.simulation.specs.Plan.{Planned}
 use Rattle.planner.specs.Call.{PlanCall}
-use Rattle.worked.specs.Moves.{benchCell, benchRecipe, benchTable}
+use Rattle.worked.specs.Moves.{benchCell, benchRecipe, benchSizes, benchTable}
 use Rattle.worked.specs.Plans.{deadRecipe, endRecipe}
 use Rattle.worked.specs.Worthless.{laneCell, laneRecipe, shuttleTable}
 use Rattle.worked.proofs.Files.{Files, files}
@@ -31,9 +32,9 @@ pub record Table : Type 0 where
   pub of-files : Files
   pub of-moves : Moves
   pub of-limit : Limit
-  pub of-calls : Promises benchCell benchRecipe benchTable 0 start benchCalls
+  pub of-calls : Promises benchCell benchRecipe benchSizes benchTable 0 start benchCalls
   -- the bench example's table is a plan, so that its 25 entries stand exactly at the positions of the greatest simulation
-  pub of-plan : Planned benchCell benchRecipe benchTable benchTable false
+  pub of-plan : Planned benchCell benchRecipe benchSizes benchTable benchTable false
   pub of-positions : countBelow (λ m. not (eqb (getD benchTable m 0) 0)) 90 ≡ 25
   -- ‡ the four moves and the entries 72 and 1, in every table that a plan call leaves; "90 passes"
   pub of-bench-calls :
@@ -67,7 +68,8 @@ pub record Table : Type 0 where
   pub of-rework : Rework
   -- worthless versions: "shuttles a pallet for ever", where the rules before 15 pass
   pub of-shuttle-rules : checkSizes laneCell laneRecipe ≡ Accepted
-  pub of-shuttle : (before : List ℕ) (refused : Bool) → Planned laneCell laneRecipe before shuttleTable refused → ⊥
+  pub of-shuttle : (before : List ℕ) (refused : Bool)
+      → Planned laneCell laneRecipe (sizesOf laneCell laneRecipe) before shuttleTable refused → ⊥
 
 pub table : Table
 table =

@@ -41,7 +41,7 @@ benchRecipe =
       otherwise = filled (0 ∷ 3 ∷ 0 ∷ 0 ∷ 0 ∷ []);
     }
 
-unfoldable pub benchSizes : Sizes
+abbrev pub benchSizes : Sizes
 benchSizes = sizesOf benchCell benchRecipe
 
 -- the next position, from a position by an entry at an outcome; the position itself if the entry isn't a move open there

@@ -36,7 +36,6 @@ const THEOREMS: &[Root] = &[Root::Theorems(
         "refused-breaks",
         "accepted-rules",
         "demand-3",
-        "demand-3-record",
     ],
 )];
 

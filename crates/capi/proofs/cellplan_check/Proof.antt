@@ -21,7 +21,11 @@ cast-result : tie.Need-cast-result
 cast-result c = search needs
 
 returns : tie.Need-returns
-returns c = c .refusal-number .ensures ∙ ap refusalIn (c .before .check .ensures ∙ (λ i. checkSizes (c .before .before .before .get-cell .ensures i) (c .before .before .get-recipe .ensures i)))
+returns c =
+    c .refusal-number .ensures
+    ∙ ap refusalIn
+    (c .before .check .ensures
+    ∙ (λ i. checkSizes (c .before .before .before .get-cell .ensures i) (c .before .before .get-recipe .ensures i)))
 
 pub cellplan-check-spec : {M : Type 1} → statement M
 cellplan-check-spec =

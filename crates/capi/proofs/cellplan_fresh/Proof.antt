@@ -31,7 +31,10 @@ unfolding codeOf
 returns-2 c =
     let at-if1 = c .before .before .before .before .before in
     let start = c .before .before .before .before .before .before .before in
-    answered _ _ 15 (start .args .buffer .now) _ 0 (at-if1 .if1 .left) refl (c .before .before .put-run .ensures ∙ ap (λ (run : Run). runBytes run ++ drop 15 (start .args .buffer .now)) (c .before .before .before .before .fresh .ensures))
+    answered _ _ 15 (start .args .buffer .now) _ 0 (at-if1 .if1 .left) refl
+    (c .before .before .put-run .ensures
+    ∙ ap (λ (run : Run). runBytes run ++ drop 15 (start .args .buffer .now))
+    (c .before .before .before .before .fresh .ensures))
 
 pub cellplan-fresh-spec : {M : Type 1} → statement M
 cellplan-fresh-spec =

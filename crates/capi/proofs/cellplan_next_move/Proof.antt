@@ -40,7 +40,11 @@ returns c =
     let start = at-get-run .before .before .before .before .before in
     let move = c .before .before .next-move .result in
     ap (λ (n : ℕ). n * 4294967296 + move .entry) (c .before .refusal-number .ensures)
-    ∙ ap moveCode (c .before .before .next-move .ensures ∙ (λ i. nextMove (c .before .before .before .before .get-cell .ensures i) (c .before .before .before .get-recipe .ensures i) (start .args .table .now) (at-get-run .get-run .ensures i)))
+    ∙ ap moveCode
+    (c .before .before .next-move .ensures
+    ∙
+    (λ i. nextMove (c .before .before .before .before .get-cell .ensures i)
+    (c .before .before .before .get-recipe .ensures i) (start .args .table .now) (at-get-run .get-run .ensures i)))
 
 pub cellplan-next-move-spec : {M : Type 1} → statement M
 cellplan-next-move-spec =

@@ -40,7 +40,11 @@ returns c =
     let start = at-get-run .before .before .before .before in
     let answer = c .before .before .place .result in
     ap (λ (n : ℕ). n * 256 + answer .place) (c .before .refusal-number .ensures)
-    ∙ ap placeCode (c .before .before .place .ensures ∙ (λ i. partPlace (c .before .before .before .before .get-cell .ensures i) (c .before .before .before .get-recipe .ensures i) (at-get-run .get-run .ensures i) (start .args .part)))
+    ∙ ap placeCode
+    (c .before .before .place .ensures
+    ∙
+    (λ i. partPlace (c .before .before .before .before .get-cell .ensures i)
+    (c .before .before .before .get-recipe .ensures i) (at-get-run .get-run .ensures i) (start .args .part)))
 
 pub cellplan-place-spec : {M : Type 1} → statement M
 cellplan-place-spec =

@@ -29,7 +29,9 @@ put-cell-requires c κs =
     let at-read-cell = c .before .before in
     let at-if1 = at-read-cell .before in
     let start = at-if1 .before .before .before in
-    let few : at-read-cell .read-cell .result .cell .count ≤ 64 = subst (λ (r : CellReading). r .cell .count ≤ 64) (sym (at-read-cell .read-cell .ensures)) (read-few (start .args .file .now)) in
+    let few : at-read-cell .read-cell .result .cell .count ≤ 64 =
+    subst (λ (r : CellReading). r .cell .count ≤ 64) (sym (at-read-cell .read-cell .ensures))
+    (read-few (start .args .file .now)) in
     (few, at-if1 .if1 .left)
 
 code-requires : tie.Need-code-requires
@@ -44,7 +46,12 @@ returns-2 c =
     let at-read-cell = at-put-cell .before .before .before in
     let at-if1 = at-read-cell .before in
     let start = at-if1 .before .before .before in
-    answered _ _ 321 (start .args .buffer .now) (at-put-cell .put-cell .last .1 .0) (c .code .result) (at-if1 .if1 .left) (c .code .ensures ∙ ap (λ (r : CellReading). codeOf (r .verdict)) (at-read-cell .read-cell .ensures)) (at-put-cell .put-cell .ensures ∙ ap (λ (r : CellReading). cellBytes (r .cell) ++ drop 321 (start .args .buffer .now)) (at-read-cell .read-cell .ensures))
+    answered _ _ 321 (start .args .buffer .now) (at-put-cell .put-cell .last .1 .0) (c .code .result)
+    (at-if1 .if1 .left)
+    (c .code .ensures ∙ ap (λ (r : CellReading). codeOf (r .verdict)) (at-read-cell .read-cell .ensures))
+    (at-put-cell .put-cell .ensures
+    ∙ ap (λ (r : CellReading). cellBytes (r .cell) ++ drop 321 (start .args .buffer .now))
+    (at-read-cell .read-cell .ensures))
 
 pub cellplan-read-cell-spec : {M : Type 1} → statement M
 cellplan-read-cell-spec =

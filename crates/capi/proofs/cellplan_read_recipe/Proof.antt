@@ -29,7 +29,9 @@ put-recipe-requires c κs =
     let at-read-recipe = c .before .before in
     let at-if1 = at-read-recipe .before in
     let start = at-if1 .before .before .before in
-    let few : at-read-recipe .read-recipe .result .recipe .count ≤ 64 = subst (λ (r : RecipeReading). r .recipe .count ≤ 64) (sym (at-read-recipe .read-recipe .ensures)) (read-few (start .args .file .now)) in
+    let few : at-read-recipe .read-recipe .result .recipe .count ≤ 64 =
+    subst (λ (r : RecipeReading). r .recipe .count ≤ 64) (sym (at-read-recipe .read-recipe .ensures))
+    (read-few (start .args .file .now)) in
     (few, at-if1 .if1 .left)
 
 code-requires : tie.Need-code-requires
@@ -44,7 +46,12 @@ returns-2 c =
     let at-read-recipe = at-put-recipe .before .before .before in
     let at-if1 = at-read-recipe .before in
     let start = at-if1 .before .before .before in
-    answered _ _ 449 (start .args .buffer .now) (at-put-recipe .put-recipe .last .1 .0) (c .code .result) (at-if1 .if1 .left) (c .code .ensures ∙ ap (λ (r : RecipeReading). codeOf (r .verdict)) (at-read-recipe .read-recipe .ensures)) (at-put-recipe .put-recipe .ensures ∙ ap (λ (r : RecipeReading). recipeBytes (r .recipe) ++ drop 449 (start .args .buffer .now)) (at-read-recipe .read-recipe .ensures))
+    answered _ _ 449 (start .args .buffer .now) (at-put-recipe .put-recipe .last .1 .0) (c .code .result)
+    (at-if1 .if1 .left)
+    (c .code .ensures ∙ ap (λ (r : RecipeReading). codeOf (r .verdict)) (at-read-recipe .read-recipe .ensures))
+    (at-put-recipe .put-recipe .ensures
+    ∙ ap (λ (r : RecipeReading). recipeBytes (r .recipe) ++ drop 449 (start .args .buffer .now))
+    (at-read-recipe .read-recipe .ensures))
 
 pub cellplan-read-recipe-spec : {M : Type 1} → statement M
 cellplan-read-recipe-spec =

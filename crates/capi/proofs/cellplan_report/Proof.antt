@@ -30,7 +30,13 @@ returns : tie.Need-returns
 returns c =
     let at-get-run = c .before .before .before .before .before in
     let start = c .before .before .before .before .before .before .before .before .before .before .before in
-    report-short _ _ (start .args .buffer .now) _ (c .before .before .report .ensures ∙ (λ i. reportOf (c .before .before .before .before .get-cell .ensures i) (c .before .before .before .get-recipe .ensures i) (start .args .table .now) (at-get-run .get-run .ensures i) (start .args .outcome))) (c .before .refusal-number .ensures) (c .if1 .taken)
+    report-short _ _ (start .args .buffer .now) _
+    (c .before .before .report .ensures
+    ∙
+    (λ i. reportOf (c .before .before .before .before .get-cell .ensures i)
+    (c .before .before .before .get-recipe .ensures i) (start .args .table .now) (at-get-run .get-run .ensures i)
+    (start .args .outcome)))
+    (c .before .refusal-number .ensures) (c .if1 .taken)
 
 put-run-requires : tie.Need-put-run-requires
 put-run-requires c κs = search needs
@@ -47,7 +53,12 @@ returns-2 c =
     let at-get-cell = at-get-recipe .before in
     let at-get-run = at-get-cell .before in
     let start = c .before .before .before .before .before .before .before .before .before .before .before .before .before .before .before .before in
-    report-put _ _ (start .args .buffer .now) _ (at-report .report .ensures ∙ (λ i. reportOf (at-get-cell .get-cell .ensures i) (at-get-recipe .get-recipe .ensures i) (start .args .table .now) (at-get-run .get-run .ensures i) (start .args .outcome))) (at-refusal-number .refusal-number .ensures) _ (at-if1 .if1 .left) (c .before .before .put-run .ensures)
+    report-put _ _ (start .args .buffer .now) _
+    (at-report .report .ensures
+    ∙
+    (λ i. reportOf (at-get-cell .get-cell .ensures i) (at-get-recipe .get-recipe .ensures i)
+    (start .args .table .now) (at-get-run .get-run .ensures i) (start .args .outcome)))
+    (at-refusal-number .refusal-number .ensures) _ (at-if1 .if1 .left) (c .before .before .put-run .ensures)
 
 pub cellplan-report-spec : {M : Type 1} → statement M
 cellplan-report-spec =

@@ -1,4 +1,5 @@
--- `capi::cellplan_report_record` meets its contract: a walk of its MIR, by hand. The records are read from their bytes, the borrow of the run is given to `run::report_record` for good, and the number of the verdict that comes back is the answer.
+-- `capi::cellplan_report_record` meets its contract: a walk of its MIR, by hand. The records are read from their bytes, the
+-- borrow of the run is given to `run::report_record` for good, and the number of the verdict that comes back is the answer.
 -- All that the proof knows of the four functions that are called is that they meet their contracts.
 -- Assumes nothing.
 use mathlib.Core.Path.{_≡_, refl, ap, subst}
@@ -18,8 +19,10 @@ use prog.Wp.{Heap, Calls, Loops, WpFn, Tables}
 use ghost.Atoms.{Atoms, sem}
 use contract.Monad.{Fun, fact}
 use contract.Running.{givenOf, tables, tablesOf}
-use types.Kit.{Given, ‵, raw, _⊛_, ⋆, some, later, _$_, _∵_, !, qed, by, move, drop, use1, use2, split, join, pick, rewrite, fsplit, fjoin, suffices, frame, await, done}
-use types.Run.{look, init, forget, stop, hop, from, load, addr, un, and-then, no-more, assigns, land, returns, enter, alloc1, alloc0, params1, pass1, pass0, free1, free0}
+use types.Kit.{Given, ‵, raw, _⊛_, ⋆, some, later, _$_, _∵_, !, qed, by, move, drop, use1, use2, split, join, pick, rewrite, fsplit, fjoin}
+use types.Kit.{suffices, frame, await, done}
+use types.Run.{look, init, forget, stop, hop, from, load, addr, un, and-then, no-more, assigns, land, returns, enter, alloc1, alloc0}
+use types.Run.{params1, pass1, pass0, free1, free0}
 use sound.WpLaws.{FmC, fmOf, WpFn-mono}
 use denote.RattleType.{owns}
 use denote.Laws.{Is, shows}
@@ -36,7 +39,8 @@ use denote.Triple.Call.{calls-at}
 use denote.Triple.Entry.{onEntry}
 use denote.Triple.Spec.{Meets, tripleOf}
 use denote.Triple.Table.{entered, cited}
-use denote.Triple.Walked.{says, Stays, gave-ref, stay-none, stay-none-slice, walkOf, AllGo, goes-gave-ref, goes-none, goes-none-slice, Walks, ends-at, walked, walk-meets}
+use denote.Triple.Walked.{says, Stays, gave-ref, stay-none, stay-none-slice, walkOf, AllGo, goes-gave-ref, goes-none, goes-none-slice}
+use denote.Triple.Walked.{Walks, ends-at, walked, walk-meets}
 use denote.Triple.Clauses.{ensured, lasts}
 use denote.Exit.{yes}
 use Rattle.refusals.specs.declared.Verdict.{Verdict}
@@ -50,7 +54,7 @@ use Rattle.recipe.specs.declared.Recipe.{Recipe}
 use Rattle.recipe.proofs.Recipe as Re
 use Rattle.recipe.proofs.Recipe.Laws as Re′
 use Rattle.run.specs.declared.Run.{Run}
-use Rattle.run.specs.Record.{Stored}
+use Rattle.run.specs.Calls.{Stored}
 use Rattle.run.proofs.Run as R
 use Rattle.run.proofs.report_record as second
 use Rattle.run.proofs.report_record.Symbol as second-def
@@ -78,7 +82,13 @@ use Rattle.capi.proofs.cellplan_report_record.Code as code
 abbrev stayed : Stays (f.ended .signature .params) (f.ended .kept)
 stayed = (
   stay-none-slice (0 ∷ []) tt (plain (λ _. u8)) yes,
-  (stay-none-slice (1 ∷ []) tt (plain (λ _. u8)) yes, (stay-none-slice (2 ∷ []) tt (plain (λ _. u32)) yes, (gave-ref (3 ∷ []) tt (plain (λ _. R.the-row)), (stay-none (λ _. u8) yes, tt)))),
+  (
+    stay-none-slice (1 ∷ []) tt (plain (λ _. u8)) yes,
+    (
+      stay-none-slice (2 ∷ []) tt (plain (λ _. u32)) yes,
+      (gave-ref (3 ∷ []) tt (plain (λ _. R.the-row)), (stay-none (λ _. u8) yes, tt)),
+    ),
+  ),
 )
 
 -- the contracts that the proof cites
@@ -120,7 +130,11 @@ on-bytes {c′ = c′} {r = r} {table = table} {before = before} {after = after}
           (subst (λ (x : Cell). Stored x r table before outcome verdict after) cell-is stored);
     }
 
-module _ {M : Type 1} (𝓤 : URA M) (H : Heap 𝓤) (A : Atoms 𝓤) (W : Given 𝓤 H A) (at-mem : Memory → SProp 𝓤) (runs : Routine → Fun 𝓤) (κ₀ κ₁ κ₂ κ₃ : Lft) (q₀ q₁ q₂ q₃ : Share) (c r t : RefT (List ℕ)) (b o : ℕ) (γ : GName) (h : Run) (n : ℕ) (c-is : Is (ShrSlice (named 0) κ₀ u8) c (slice-vals c)) (r-is : Is (ShrSlice (named 1) κ₁ u8) r (slice-vals r)) (t-is : Is (ShrSlice (named 2) κ₂ u32) t (slice-vals t)) (n-fits : n < 2 ^ 8) where
+module _ {M : Type 1} (𝓤 : URA M) (H : Heap 𝓤) (A : Atoms 𝓤) (W : Given 𝓤 H A) (at-mem : Memory → SProp 𝓤)
+    (runs : Routine → Fun 𝓤) (κ₀ κ₁ κ₂ κ₃ : Lft) (q₀ q₁ q₂ q₃ : Share) (c r t : RefT (List ℕ)) (b o : ℕ) (γ : GName)
+    (h : Run) (n : ℕ) (c-is : Is (ShrSlice (named 0) κ₀ u8) c (slice-vals c))
+    (r-is : Is (ShrSlice (named 1) κ₁ u8) r (slice-vals r)) (t-is : Is (ShrSlice (named 2) κ₂ u32) t (slice-vals t))
+    (n-fits : n < 2 ^ 8) where
   -- the run's borrow
   abbrev run : RefT Run
   run = record { ptr = (b, o); name = γ; now = h }
@@ -153,8 +167,10 @@ module _ {M : Type 1} (𝓤 : URA M) (H : Heap 𝓤) (A : Atoms 𝓤) (W : Given
 
   goes-cell : ent 𝓤 (⋆ 𝓤 H A (‵ (flft κ₀ q₀) ∷ ‵ OwnC ∷ [])) (sep 𝓤 (GetCell 𝓤 H A at-mem runs .pre to-cell) (sem 𝓤 H A OwnC))
   goes-cell =
-      qed W (‵ (flft κ₀ q₀) ∷ ‵ OwnC ∷ []) ∵ move ! (1 ∷ []) $ use1 W (‵ OwnC ⊛ ‵ OwnC) (shr-slice-copy 𝓤 H A W (named 0) κ₀ u8 .twice c (val c ∷ [])) $ split ! $
-      nothing ! $ move ! (1 ∷ 0 ∷ []) $ fjoin ! $ nothing ! $ move ! (3 ∷ 0 ∷ []) $ join ! $ use2 W (raw (GetCell 𝓤 H A at-mem runs .pre to-cell)) asked-cell $ frame ! $ done !
+      qed W (‵ (flft κ₀ q₀) ∷ ‵ OwnC ∷ []) ∵ move ! (1 ∷ []) $ use1 W (‵ OwnC ⊛ ‵ OwnC)
+      (shr-slice-copy 𝓤 H A W (named 0) κ₀ u8 .twice c (val c ∷ [])) $ split ! $
+      nothing ! $ move ! (1 ∷ 0 ∷ []) $ fjoin ! $ nothing ! $ move ! (3 ∷ 0 ∷ []) $ join ! $ use2 W
+      (raw (GetCell 𝓤 H A at-mem runs .pre to-cell)) asked-cell $ frame ! $ done !
 
   said-cell : (x : Cell) → ent 𝓤 (ensured 𝓤 H A get-cell.ended (get-cell.clauses 𝓤 H A at-mem runs) (κ₀, tt) (c, tt) tt x) (fact 𝓤 (x ≡ cellFrom (now c)))
   said-cell x = exE 𝓤 _ (λ ws. snd∗ 𝓤 (sem 𝓤 H A (lasts get-cell.ended (κ₀, tt) (c, tt) ws)) (fact 𝓤 (x ≡ cellFrom (now c))))
@@ -168,10 +184,14 @@ module _ {M : Type 1} (𝓤 : URA M) (H : Heap 𝓤) (A : Atoms 𝓤) (W : Given
 
   goes-recipe : ent 𝓤 (⋆ 𝓤 H A (‵ (flft κ₁ q₁) ∷ ‵ OwnR ∷ [])) (sep 𝓤 (GetRecipe 𝓤 H A at-mem runs .pre to-recipe) (sem 𝓤 H A OwnR))
   goes-recipe =
-      qed W (‵ (flft κ₁ q₁) ∷ ‵ OwnR ∷ []) ∵ move ! (1 ∷ []) $ use1 W (‵ OwnR ⊛ ‵ OwnR) (shr-slice-copy 𝓤 H A W (named 1) κ₁ u8 .twice r (val r ∷ [])) $ split ! $
-      nothing ! $ move ! (1 ∷ 0 ∷ []) $ fjoin ! $ nothing ! $ move ! (3 ∷ 0 ∷ []) $ join ! $ use2 W (raw (GetRecipe 𝓤 H A at-mem runs .pre to-recipe)) asked-recipe $ frame ! $ done !
+      qed W (‵ (flft κ₁ q₁) ∷ ‵ OwnR ∷ []) ∵ move ! (1 ∷ []) $ use1 W (‵ OwnR ⊛ ‵ OwnR)
+      (shr-slice-copy 𝓤 H A W (named 1) κ₁ u8 .twice r (val r ∷ [])) $ split ! $
+      nothing ! $ move ! (1 ∷ 0 ∷ []) $ fjoin ! $ nothing ! $ move ! (3 ∷ 0 ∷ []) $ join ! $ use2 W
+      (raw (GetRecipe 𝓤 H A at-mem runs .pre to-recipe)) asked-recipe $ frame ! $ done !
 
-  said-recipe : (y : Recipe) → ent 𝓤 (ensured 𝓤 H A get-recipe.ended (get-recipe.clauses 𝓤 H A at-mem runs) (κ₁, tt) (r, tt) tt y) (fact 𝓤 (y ≡ recipeFrom (now r)))
+  said-recipe : (y : Recipe)
+      → ent 𝓤 (ensured 𝓤 H A get-recipe.ended (get-recipe.clauses 𝓤 H A at-mem runs) (κ₁, tt) (r, tt) tt y)
+      (fact 𝓤 (y ≡ recipeFrom (now r)))
   said-recipe y = exE 𝓤 _ (λ ws. snd∗ 𝓤 (sem 𝓤 H A (lasts get-recipe.ended (κ₁, tt) (r, tt) ws)) (fact 𝓤 (y ≡ recipeFrom (now r))))
 
   -- the call of `refusal_number`
@@ -197,13 +217,26 @@ module _ {M : Type 1} (𝓤 : URA M) (H : Heap 𝓤) (A : Atoms 𝓤) (W : Given
     to-second = (((κ₃, (κ₂, tt)), (q₃, (q₂, tt)), tt, passed, passed-vals), tt)
 
     asked-second : ent 𝓤 (onEntry 𝓤 H A second.signature (κ₃, (κ₂, tt)) (q₃, (q₂, tt)) passed passed-vals) (Second 𝓤 H A at-mem runs .pre to-second)
-    asked-second = qed W ((‵ (flft κ₃ q₃) ⊛ ‵ (flft κ₂ q₂) ⊛ ‵ ftrue) ∷ ‵ (owns (MutRef (named 0) κ₃ R.the-row ∷ Ce.the-row ∷ Re.the-row ∷ ShrSlice (named 1) κ₂ u32 ∷ u8 ∷ []) passed passed-vals) ∷ []) ∵ join ! $ frame ! $ done !
+    asked-second =
+        qed W
+        ((‵ (flft κ₃ q₃) ⊛ ‵ (flft κ₂ q₂) ⊛ ‵ ftrue) ∷ ‵
+        (owns (MutRef (named 0) κ₃ R.the-row ∷ Ce.the-row ∷ Re.the-row ∷ ShrSlice (named 1) κ₂ u32 ∷ u8 ∷ []) passed
+        passed-vals) ∷ []) ∵ join ! $ frame ! $ done !
 
   exits : (after : Run) (m : ℕ) → Recorded (cellFrom (now c)) (recipeFrom (now r)) (now t) h n after m → m < 2 ^ 8
-      → ent 𝓤 (⋆ 𝓤 H A ((‵ (flft κ₃ q₃) ⊛ ‵ (flft κ₂ q₂) ⊛ ‵ ftrue) ∷ ‵ (fres γ (R.the-row .coded .code after)) ∷ ‵ OwnT ∷ (‵ (flft κ₁ q₁) ⊛ ‵ ftrue) ∷ ‵ OwnR ∷ (‵ (flft κ₀ q₀) ⊛ ‵ ftrue) ∷ ‵ OwnC ∷ [])) (Post (vint w32 m))
+      → ent 𝓤
+      (⋆ 𝓤 H A
+      ((‵ (flft κ₃ q₃) ⊛ ‵ (flft κ₂ q₂) ⊛ ‵ ftrue) ∷ ‵ (fres γ (R.the-row .coded .code after)) ∷ ‵ OwnT ∷
+      (‵ (flft κ₁ q₁) ⊛ ‵ ftrue) ∷ ‵ OwnR ∷ (‵ (flft κ₀ q₀) ⊛ ‵ ftrue) ∷ ‵ OwnC ∷ []))
+      (Post (vint w32 m))
   exits after m e small =
-      qed W ((‵ (flft κ₃ q₃) ⊛ ‵ (flft κ₂ q₂) ⊛ ‵ ftrue) ∷ ‵ (fres γ (R.the-row .coded .code after)) ∷ ‵ OwnT ∷ (‵ (flft κ₁ q₁) ⊛ ‵ ftrue) ∷ ‵ OwnR ∷ (‵ (flft κ₀ q₀) ⊛ ‵ ftrue) ∷ ‵ OwnC ∷ []) ∵
-      suffices ! _ (ends-at 𝓤 H A f.ended stayed (f.clauses 𝓤 H A at-mem runs) W (((κ₀, (κ₁, (κ₂, (κ₃, tt)))), (q₀, (q₁, (q₂, (q₃, tt)))), tt, a, vals), tt) (vint w32 m) m (tt, (tt, (tt, (after, (tt, tt))))) (tt, (tt, (tt, (tt, (tt, tt)))))) $
+      qed W
+      ((‵ (flft κ₃ q₃) ⊛ ‵ (flft κ₂ q₂) ⊛ ‵ ftrue) ∷ ‵ (fres γ (R.the-row .coded .code after)) ∷ ‵ OwnT ∷
+      (‵ (flft κ₁ q₁) ⊛ ‵ ftrue) ∷ ‵ OwnR ∷ (‵ (flft κ₀ q₀) ⊛ ‵ ftrue) ∷ ‵ OwnC ∷ []) ∵
+      suffices ! _
+      (ends-at 𝓤 H A f.ended stayed (f.clauses 𝓤 H A at-mem runs) W
+      (((κ₀, (κ₁, (κ₂, (κ₃, tt)))), (q₀, (q₁, (q₂, (q₃, tt)))), tt, a, vals), tt) (vint w32 m) m
+      (tt, (tt, (tt, (after, (tt, tt))))) (tt, (tt, (tt, (tt, (tt, tt)))))) $
       says ! e $
       -- the tokens in the order of the parameters
       split ! $ move ! (1 ∷ []) $ split ! $ move ! (2 ∷ 1 ∷ []) $ join ! $ move ! (1 ∷ 0 ∷ []) $ join ! $
@@ -214,78 +247,151 @@ module _ {M : Type 1} (𝓤 : URA M) (H : Heap 𝓤) (A : Atoms 𝓤) (W : Given
       owned ! u32 (Is u32) (uint-makes 𝓤 H A W w32) m _ (refl, byte-fits m small) $ move ! (1 ∷ 0 ∷ []) $ done !
 
   module _ (C : Calls 𝓤 H) (Λ : Loops 𝓤 H) (fm : FmC 𝓤 H (W .laws) C)
-      (known-cell : Triple 𝓤 (C #capi·get·get-cell) (GetCell 𝓤 H A at-mem runs)) (known-recipe : Triple 𝓤 (C #capi·get·get-recipe) (GetRecipe 𝓤 H A at-mem runs))
-      (known-second : Triple 𝓤 (C #run·report-record) (Second 𝓤 H A at-mem runs)) (known-number : Triple 𝓤 (C #capi·refusal-number) (Number 𝓤 H A at-mem runs)) where
-    walk : ent 𝓤 (onEntry 𝓤 H A f.signature (κ₀, (κ₁, (κ₂, (κ₃, tt)))) (q₀, (q₁, (q₂, (q₃, tt)))) a vals) (WpFn 𝓤 H C Λ code.function (val c ∷ val r ∷ val t ∷ vptr b o ∷ vint w8 n ∷ []) Post)
+      (known-cell : Triple 𝓤 (C #capi·get·get-cell) (GetCell 𝓤 H A at-mem runs))
+      (known-recipe : Triple 𝓤 (C #capi·get·get-recipe) (GetRecipe 𝓤 H A at-mem runs))
+      (known-second : Triple 𝓤 (C #run·report-record) (Second 𝓤 H A at-mem runs))
+      (known-number : Triple 𝓤 (C #capi·refusal-number) (Number 𝓤 H A at-mem runs)) where
+    walk : ent 𝓤 (onEntry 𝓤 H A f.signature (κ₀, (κ₁, (κ₂, (κ₃, tt)))) (q₀, (q₁, (q₂, (q₃, tt)))) a vals)
+        (WpFn 𝓤 H C Λ code.function (val c ∷ val r ∷ val t ∷ vptr b o ∷ vint w8 n ∷ []) Post)
     walk =
-        qed W ((‵ (flft κ₀ q₀) ⊛ ‵ (flft κ₁ q₁) ⊛ ‵ (flft κ₂ q₂) ⊛ ‵ (flft κ₃ q₃) ⊛ ‵ ftrue) ∷ ‵ (owns (ShrSlice (named 0) κ₀ u8 ∷ ShrSlice (named 1) κ₁ u8 ∷ ShrSlice (named 2) κ₂ u32 ∷ MutRef (named 3) κ₃ R.the-row ∷ u8 ∷ []) a vals) ∷ []) ∵
+        qed W
+        ((‵ (flft κ₀ q₀) ⊛ ‵ (flft κ₁ q₁) ⊛ ‵ (flft κ₂ q₂) ⊛ ‵ (flft κ₃ q₃) ⊛ ‵ ftrue) ∷ ‵
+        (owns
+        (ShrSlice (named 0) κ₀ u8 ∷ ShrSlice (named 1) κ₁ u8 ∷ ShrSlice (named 2) κ₂ u32 ∷ MutRef (named 3) κ₃
+        R.the-row ∷ u8 ∷ [])
+        a vals) ∷ []) ∵
         -- what the parameters own, the outcome left out, and the tokens, each by itself
         move ! (1 ∷ []) $ fsplit ! $ move ! (1 ∷ []) $ fsplit ! $ move ! (1 ∷ []) $ fsplit ! $ move ! (1 ∷ []) $ fsplit ! $ move ! (1 ∷ []) $ drop ! $
         move ! (4 ∷ []) $ split ! $ move ! (1 ∷ []) $ split ! $ move ! (1 ∷ []) $ split ! $ move ! (1 ∷ []) $ split ! $ move ! (1 ∷ []) $ drop ! $
-        -- [the run's token; the table's; the recipe's; the cell's; what the run's borrow owns; what the table's owns; what the recipe's owns; what the cell's owns]
+        -- [the run's token; the table's; the recipe's; the cell's; what the run's borrow owns; what the table's owns; what the
+        -- recipe's owns; what the cell's owns]
         enter ! C Λ code.function (val c ∷ val r ∷ val t ∷ vptr b o ∷ vint w8 n ∷ []) _ $
-        alloc1 ! (λ l₀. alloc1 ! (λ l₁. alloc1 ! (λ l₂. alloc1 ! (λ l₃. alloc1 ! (λ l₄. alloc1 ! (λ l₅. alloc1 ! (λ l₆. alloc1 ! (λ l₇. alloc1 ! (λ l₈. alloc1 ! (λ l₉. alloc1 ! (λ l₁₀. alloc0 ! $ params1 ! $
-        pass1 ! (init ! 18 refl (shr-slice-lawful 𝓤 H A W (named 0) κ₀ u8 .typed c _ c-is .0)) $ pass1 ! (init ! 16 refl (shr-slice-lawful 𝓤 H A W (named 1) κ₁ u8 .typed r _ r-is .0)) $
-        pass1 ! (init ! 14 refl (shr-slice-lawful 𝓤 H A W (named 2) κ₂ u32 .typed t _ t-is .0)) $ pass1 ! (init ! 12 refl (tt, tt)) $ pass1 ! (init ! 10 refl (tt, record { fits = n-fits })) $ pass0 ! $
-        -- [_10; …; _9; …; _8; …; _7; …; _6; …; _5; …; _4; …; _3; …; _2; …; _1; …; room for _0; …; the run's token; the table's; the recipe's; the cell's; the run's; the table's; the recipe's; the cell's]
+        alloc1 !
+        (λ l₀. alloc1 !
+        (λ l₁. alloc1 !
+        (λ l₂. alloc1 !
+        (λ l₃. alloc1 !
+        (λ l₄. alloc1 !
+        (λ l₅. alloc1 !
+        (λ l₆. alloc1 ! (λ l₇. alloc1 ! (λ l₈. alloc1 ! (λ l₉. alloc1 ! (λ l₁₀. alloc0 ! $ params1 ! $
+        pass1 ! (init ! 18 refl (shr-slice-lawful 𝓤 H A W (named 0) κ₀ u8 .typed c _ c-is .0)) $ pass1 !
+        (init ! 16 refl (shr-slice-lawful 𝓤 H A W (named 1) κ₁ u8 .typed r _ r-is .0)) $
+        pass1 ! (init ! 14 refl (shr-slice-lawful 𝓤 H A W (named 2) κ₂ u32 .typed t _ t-is .0)) $ pass1 !
+        (init ! 12 refl (tt, tt)) $ pass1 ! (init ! 10 refl (tt, record { fits = n-fits })) $ pass0 ! $
+        -- [_10; …; _9; …; _8; …; _7; …; _6; …; _5; …; _4; …; _3; …; _2; …; _1; …; room for _0; …; the run's token; the table's;
+        -- the recipe's; the cell's; the run's; the table's; the recipe's; the cell's]
         assigns ! (addr ! (from ! (hop ! (look ! 12 refl) (stop !)))) (from ! (stop !)) (init ! 6 refl (tt, tt)) $
         move ! (25 ∷ 29 ∷ []) $ use2 W (raw (GetCell 𝓤 H A at-mem runs .pre to-cell) ⊛ ‵ OwnC) goes-cell $ split ! $
         -- [what `get_cell` asks; what the cell's borrow owns; _10; …]
         calls-at ! fm (GetCell 𝓤 H A at-mem runs) known-cell to-cell (and-then ! (load ! (from ! (stop !)) (look ! 20 refl)) (no-more !)) (λ u.
-        use1 W (later (some (λ (x : Cell). ((‵ (flft κ₀ q₀) ⊛ ‵ ftrue) ⊛ ‵ (Ce.the-row .own x (u ∷ []))) ⊛ raw (ensured 𝓤 H A get-cell.ended (get-cell.clauses 𝓤 H A at-mem runs) (κ₀, tt) (c, tt) tt x)))) (id⊢ 𝓤 _) $ await ! tt $ pick ! (λ x.
-        split ! $ move ! (1 ∷ []) $ use1 W (raw (fact 𝓤 (x ≡ cellFrom (now c)))) (said-cell x) $ heard ! (x ≡ cellFrom (now c)) (λ cell-is. split ! $ move ! (1 ∷ []) $
+        use1 W
+        (later
+        (some
+        (λ (x : Cell). ((‵ (flft κ₀ q₀) ⊛ ‵ ftrue) ⊛ ‵ (Ce.the-row .own x (u ∷ []))) ⊛ raw
+        (ensured 𝓤 H A get-cell.ended (get-cell.clauses 𝓤 H A at-mem runs) (κ₀, tt) (c, tt) tt x))))
+        (id⊢ 𝓤 _) $ await ! tt $ pick ! (λ x.
+        split ! $ move ! (1 ∷ []) $ use1 W (raw (fact 𝓤 (x ≡ cellFrom (now c)))) (said-cell x) $ heard !
+        (x ≡ cellFrom (now c)) (λ cell-is. split ! $ move ! (1 ∷ []) $
         peeks ! Ce.the-row (Is Ce.the-row) (shows 𝓤 H A Ce.the-row) x (u ∷ []) (λ x-is.
         -- [what the cell record owns; the cell's token; what the cell's borrow owns; _10; …]
         land ! (from ! (stop !)) (init ! 7 refl (LL.lawful Ce.the-type Ce′.the-laws 𝓤 H A W .typed x _ x-is .0)) $
         move ! (27 ∷ 30 ∷ []) $ use2 W (raw (GetRecipe 𝓤 H A at-mem runs .pre to-recipe) ⊛ ‵ OwnR) goes-recipe $ split ! $
         -- [what `get_recipe` asks; what the recipe's borrow owns; what the cell record owns; the cell's token; what the cell's borrow owns; _10; …]
         calls-at ! fm (GetRecipe 𝓤 H A at-mem runs) known-recipe to-recipe (and-then ! (load ! (from ! (stop !)) (look ! 21 refl)) (no-more !)) (λ u′.
-        use1 W (later (some (λ (y : Recipe). ((‵ (flft κ₁ q₁) ⊛ ‵ ftrue) ⊛ ‵ (Re.the-row .own y (u′ ∷ []))) ⊛ raw (ensured 𝓤 H A get-recipe.ended (get-recipe.clauses 𝓤 H A at-mem runs) (κ₁, tt) (r, tt) tt y)))) (id⊢ 𝓤 _) $ await ! tt $ pick ! (λ y.
-        split ! $ move ! (1 ∷ []) $ use1 W (raw (fact 𝓤 (y ≡ recipeFrom (now r)))) (said-recipe y) $ heard ! (y ≡ recipeFrom (now r)) (λ recipe-is. split ! $ move ! (1 ∷ []) $
+        use1 W
+        (later
+        (some
+        (λ (y : Recipe). ((‵ (flft κ₁ q₁) ⊛ ‵ ftrue) ⊛ ‵ (Re.the-row .own y (u′ ∷ []))) ⊛ raw
+        (ensured 𝓤 H A get-recipe.ended (get-recipe.clauses 𝓤 H A at-mem runs) (κ₁, tt) (r, tt) tt y))))
+        (id⊢ 𝓤 _) $ await ! tt $ pick ! (λ y.
+        split ! $ move ! (1 ∷ []) $ use1 W (raw (fact 𝓤 (y ≡ recipeFrom (now r)))) (said-recipe y) $ heard !
+        (y ≡ recipeFrom (now r)) (λ recipe-is. split ! $ move ! (1 ∷ []) $
         peeks ! Re.the-row (Is Re.the-row) (shows 𝓤 H A Re.the-row) y (u′ ∷ []) (λ y-is.
-        -- [what the recipe record owns; the recipe's token; what its borrow owns; what the cell record owns; the cell's token; what its borrow owns; _10; …; the run's token; the table's; what the run's borrow owns; what the table's owns]
+        -- [what the recipe record owns; the recipe's token; what its borrow owns; what the cell record owns; the cell's token;
+        -- what its borrow owns; _10; …; the run's token; the table's; what the run's borrow owns; what the table's owns]
         land ! (from ! (stop !)) (init ! 8 refl (LL.lawful Re.the-type Re′.the-laws 𝓤 H A W .typed y _ y-is .0)) $
         move ! (31 ∷ []) $ use1 W (‵ OwnT ⊛ ‵ OwnT) (shr-slice-copy 𝓤 H A W (named 2) κ₂ u32 .twice t (val t ∷ [])) $ split ! $
         nothing ! $ owned ! u8 (Is u8) (uint-makes 𝓤 H A W w8) n _ (refl, n-fits) $ fjoin ! $ move ! (1 ∷ 0 ∷ []) $ fjoin ! $
         move ! (2 ∷ 0 ∷ []) $ fjoin ! $ move ! (4 ∷ 0 ∷ []) $ fjoin ! $ move ! (30 ∷ 0 ∷ []) $ fjoin ! $
-        nothing ! $ move ! (30 ∷ 0 ∷ []) $ join ! $ move ! (29 ∷ 0 ∷ []) $ join ! $ use2 W (raw (Second 𝓤 H A at-mem runs .pre (to-second x y u u′))) (asked-second x y u u′) $
+        nothing ! $ move ! (30 ∷ 0 ∷ []) $ join ! $ move ! (29 ∷ 0 ∷ []) $ join ! $ use2 W
+        (raw (Second 𝓤 H A at-mem runs .pre (to-second x y u u′))) (asked-second x y u u′) $
         -- [what `report_record` asks; what the table's borrow owns; the recipe's token; what its borrow owns; the cell's token; what its borrow owns; _10; …]
         calls-at ! fm (Second 𝓤 H A at-mem runs) known-second (to-second x y u u′)
-        (and-then ! (load ! (from ! (stop !)) (look ! 12 refl)) (and-then ! (load ! (from ! (stop !)) (look ! 10 refl)) (and-then ! (load ! (from ! (stop !)) (look ! 8 refl)) (and-then ! (load ! (from ! (stop !)) (look ! 20 refl)) (and-then ! (load ! (from ! (stop !)) (look ! 16 refl)) (no-more !))))))
+        (and-then ! (load ! (from ! (stop !)) (look ! 12 refl))
+        (and-then ! (load ! (from ! (stop !)) (look ! 10 refl))
+        (and-then ! (load ! (from ! (stop !)) (look ! 8 refl))
+        (and-then ! (load ! (from ! (stop !)) (look ! 20 refl))
+        (and-then ! (load ! (from ! (stop !)) (look ! 16 refl)) (no-more !))))))
         (λ w.
-        use1 W (later (some (λ (v : Verdict). ((‵ (flft κ₃ q₃) ⊛ ‵ (flft κ₂ q₂) ⊛ ‵ ftrue) ⊛ ‵ (Ve.the-row .own v (w ∷ []))) ⊛ raw (ensured 𝓤 H A second.ended (second.clauses 𝓤 H A at-mem runs) (κ₃, (κ₂, tt)) (passed x y u u′) tt v)))) (id⊢ 𝓤 _) $ await ! tt $ pick ! (λ v.
+        use1 W
+        (later
+        (some
+        (λ (v : Verdict). ((‵ (flft κ₃ q₃) ⊛ ‵ (flft κ₂ q₂) ⊛ ‵ ftrue) ⊛ ‵ (Ve.the-row .own v (w ∷ []))) ⊛ raw
+        (ensured 𝓤 H A second.ended (second.clauses 𝓤 H A at-mem runs) (κ₃, (κ₂, tt)) (passed x y u u′) tt v))))
+        (id⊢ 𝓤 _) $ await ! tt $ pick ! (λ v.
         -- what `report_record` ensures, at some last run
-        split ! $ move ! (1 ∷ []) $ use1 W (some (λ (zs : Run × (Unit {0} × (Unit {0} × (Unit {0} × (Unit {0} × Unit {0}))))). ‵ (lasts second.ended (κ₃, (κ₂, tt)) (passed x y u u′) zs) ⊛ raw (fact 𝓤 (Stored x y (now t) h n v (zs .0))))) (id⊢ 𝓤 _) $ pick ! (λ zs.
-        split ! $ move ! (1 ∷ []) $ heard ! (Stored x y (now t) h n v (zs .0)) (λ e. fsplit ! $ move ! (1 ∷ []) $ drop ! $ move ! (1 ∷ []) $ split ! $ move ! (1 ∷ []) $
+        split ! $ move ! (1 ∷ []) $ use1 W
+        (some
+        (λ (zs : Run × (Unit {0} × (Unit {0} × (Unit {0} × (Unit {0} × Unit {0}))))). ‵
+        (lasts second.ended (κ₃, (κ₂, tt)) (passed x y u u′) zs) ⊛ raw (fact 𝓤 (Stored x y (now t) h n v (zs .0)))))
+        (id⊢ 𝓤 _) $ pick ! (λ zs.
+        split ! $ move ! (1 ∷ []) $ heard ! (Stored x y (now t) h n v (zs .0))
+        (λ e. fsplit ! $ move ! (1 ∷ []) $ drop ! $ move ! (1 ∷ []) $ split ! $ move ! (1 ∷ []) $
         peeks ! Ve.the-row (Is Ve.the-row) (shows 𝓤 H A Ve.the-row) v (w ∷ []) (λ v-is.
-        -- [what the verdict owns; the tokens of the run and the table; the run's last value; what the table's borrow owns; the recipe's token; what its borrow owns; the cell's token; what its borrow owns; _10; …]
+        -- [what the verdict owns; the tokens of the run and the table; the run's last value; what the table's borrow owns; the
+        -- recipe's token; what its borrow owns; the cell's token; what its borrow owns; _10; …]
         land ! (from ! (stop !)) (init ! 16 refl (EL.lawful Ve.the-type Ve′.the-laws 𝓤 H A W tt .typed v _ v-is .0)) $
         nothing ! $ move ! (1 ∷ 0 ∷ []) $ fjoin ! $ nothing ! $ use2 W (raw (Number 𝓤 H A at-mem runs .pre (to-number v w))) (asked-number v w) $
         calls-at ! fm (Number 𝓤 H A at-mem runs) known-number (to-number v w) (and-then ! (load ! (from ! (stop !)) (look ! 16 refl)) (no-more !)) (λ z.
-        use1 W (later (some (λ (m : ℕ). (‵ ftrue ⊛ ‵ (u8 .own m (z ∷ []))) ⊛ raw (ensured 𝓤 H A number.ended (number.clauses 𝓤 H A at-mem runs) tt (v, tt) tt m)))) (id⊢ 𝓤 _) $ await ! tt $ pick ! (λ m.
+        use1 W
+        (later
+        (some
+        (λ (m : ℕ). (‵ ftrue ⊛ ‵ (u8 .own m (z ∷ []))) ⊛ raw
+        (ensured 𝓤 H A number.ended (number.clauses 𝓤 H A at-mem runs) tt (v, tt) tt m))))
+        (id⊢ 𝓤 _) $ await ! tt $ pick ! (λ m.
         split ! $ move ! (1 ∷ []) $ use1 W (raw (fact 𝓤 (m ≡ refusalIn v))) (said-number v w m) $ heard ! (m ≡ refusalIn v) (λ told. split ! $ move ! (1 ∷ []) $
         peeks ! u8 (Is u8) (shows 𝓤 H A u8) m (z ∷ []) (λ m-is.
         -- [what the number owns; true; the tokens of the run and the table; …; what the cell's borrow owns; _10; …]
         land ! (from ! (stop !)) (init ! 9 refl (uint-lawful 𝓤 H A W w8 .typed m _ m-is .0)) $
         rewrite ! 9 (λ (k : Val). ‵ (fat fullShare (tyInt w8) l₁₀ 0 k)) (ap only (uint-tells w8 m (z ∷ []) m-is)) refl $
-        assigns ! (un ! (load ! (from ! (stop !)) (look ! 9 refl)) (record { fits = byte-fits m (m-is .1) })) (from ! (stop !)) (init ! 29 refl (tt, record { fits = byte-fits m (m-is .1) })) $
+        assigns ! (un ! (load ! (from ! (stop !)) (look ! 9 refl)) (record { fits = byte-fits m (m-is .1) }))
+        (from ! (stop !)) (init ! 29 refl (tt, record { fits = byte-fits m (m-is .1) })) $
         drop ! $ drop ! $
-        -- [the tokens of the run and the table; the run's last value; the table's; the recipe's token; the recipe's; the cell's token; the cell's; _10; …; _0; …]
-        returns ! (look ! 27 refl) $ forget ! 7 refl $ forget ! 9 refl $ forget ! 11 refl $ forget ! 13 refl $ forget ! 15 refl $ forget ! 17 refl $ forget ! 19 refl $ forget ! 21 refl $ forget ! 23 refl $ forget ! 25 refl $ forget ! 27 refl $
-        move ! (27 ∷ 28 ∷ []) $ free1 ! $ move ! (25 ∷ 26 ∷ []) $ free1 ! $ move ! (23 ∷ 24 ∷ []) $ free1 ! $ move ! (21 ∷ 22 ∷ []) $ free1 ! $ move ! (19 ∷ 20 ∷ []) $ free1 ! $ move ! (17 ∷ 18 ∷ []) $ free1 ! $
-        move ! (15 ∷ 16 ∷ []) $ free1 ! $ move ! (13 ∷ 14 ∷ []) $ free1 ! $ move ! (11 ∷ 12 ∷ []) $ free1 ! $ move ! (9 ∷ 10 ∷ []) $ free1 ! $ move ! (7 ∷ 8 ∷ []) $ free1 ! $ free0 ! $
+        -- [the tokens of the run and the table; the run's last value; the table's; the recipe's token; the recipe's; the cell's
+        -- token; the cell's; _10; …; _0; …]
+        returns ! (look ! 27 refl) $ forget ! 7 refl $ forget ! 9 refl $ forget ! 11 refl $ forget ! 13
+        refl $ forget ! 15 refl $ forget ! 17 refl $ forget ! 19 refl $ forget ! 21 refl $ forget ! 23
+        refl $ forget ! 25 refl $ forget ! 27 refl $
+        move ! (27 ∷ 28 ∷ []) $ free1 ! $ move ! (25 ∷ 26 ∷ []) $ free1 ! $ move ! (23 ∷ 24 ∷ []) $ free1 ! $ move !
+        (21 ∷ 22 ∷ []) $ free1 ! $ move ! (19 ∷ 20 ∷ []) $ free1 ! $ move ! (17 ∷ 18 ∷ []) $ free1 ! $
+        move ! (15 ∷ 16 ∷ []) $ free1 ! $ move ! (13 ∷ 14 ∷ []) $ free1 ! $ move ! (11 ∷ 12 ∷ []) $ free1 ! $ move !
+        (9 ∷ 10 ∷ []) $ free1 ! $ move ! (7 ∷ 8 ∷ []) $ free1 ! $ free0 ! $
         by ! (exits (zs .0) m (on-bytes cell-is recipe-is e told) (m-is .1))))))))))))))))))))))))))))))
 
 module _ {M : Type 1} (𝓤 : URA M) (H : Heap 𝓤) (A : Atoms 𝓤) (W : Given 𝓤 H A) (at-mem : Memory → SProp 𝓤) (runs : Routine → Fun 𝓤) where
-  report-record-walks : (C : Calls 𝓤 H) (Λ : Loops 𝓤 H) → FmC 𝓤 H (W .laws) C → Triple 𝓤 (C #capi·get·get-cell) (GetCell 𝓤 H A at-mem runs) → Triple 𝓤 (C #capi·get·get-recipe) (GetRecipe 𝓤 H A at-mem runs)
+  report-record-walks : (C : Calls 𝓤 H) (Λ : Loops 𝓤 H) → FmC 𝓤 H (W .laws) C
+      → Triple 𝓤 (C #capi·get·get-cell) (GetCell 𝓤 H A at-mem runs)
+      → Triple 𝓤 (C #capi·get·get-recipe) (GetRecipe 𝓤 H A at-mem runs)
       → Triple 𝓤 (C #run·report-record) (Second 𝓤 H A at-mem runs) → Triple 𝓤 (C #capi·refusal-number) (Number 𝓤 H A at-mem runs)
       → Walks 𝓤 H A f.ended stayed (WpFn 𝓤 H C Λ code.function) (f.clauses 𝓤 H A at-mem runs)
   report-record-walks C Λ fm known-cell known-recipe known-second known-number =
       walked 𝓤 H A f.ended stayed (f.clauses 𝓤 H A at-mem runs) (WpFn 𝓤 H C Λ code.function)
       (λ κs. (slice-vals, (slice-vals, (slice-vals, (ptr-vals, (uint-vals w8, tt))))))
-      (λ κs. (shr-slice-tells (named 0) (κs .0) u8, (shr-slice-tells (named 1) (κs .1 .0) u8, (shr-slice-tells (named 2) (κs .1 .1 .0) u32, (mut-tells (named 3) (κs .1 .1 .1 .0) R.the-row, (uint-tells w8, tt))))))
+      (λ κs. (
+        shr-slice-tells (named 0) (κs .0) u8,
+        (
+          shr-slice-tells (named 1) (κs .1 .0) u8,
+          (
+            shr-slice-tells (named 2) (κs .1 .1 .0) u32,
+            (mut-tells (named 3) (κs .1 .1 .1 .0) R.the-row, (uint-tells w8, tt)),
+          ),
+        ),
+      ))
       (λ κs qs bounds a g are. via 𝓤 _ (fst∗ 𝓤 _ (emp 𝓤))
-      (walk 𝓤 H A W at-mem runs (κs .0) (κs .1 .0) (κs .1 .1 .0) (κs .1 .1 .1 .0) (qs .0) (qs .1 .0) (qs .1 .1 .0) (qs .1 .1 .1 .0) (a .0) (a .1 .0) (a .1 .1 .0) (a .1 .1 .1 .0 .ptr .0) (a .1 .1 .1 .0 .ptr .1) (a .1 .1 .1 .0 .name) (a .1 .1 .1 .0 .now) (a .1 .1 .1 .1 .0) (are .0) (are .1 .0) (are .1 .1 .0) (are .1 .1 .1 .1 .0 .1) C Λ fm known-cell known-recipe known-second known-number))
+      (walk 𝓤 H A W at-mem runs (κs .0) (κs .1 .0) (κs .1 .1 .0) (κs .1 .1 .1 .0) (qs .0) (qs .1 .0) (qs .1 .1 .0)
+      (qs .1 .1 .1 .0) (a .0) (a .1 .0) (a .1 .1 .0) (a .1 .1 .1 .0 .ptr .0) (a .1 .1 .1 .0 .ptr .1)
+      (a .1 .1 .1 .0 .name) (a .1 .1 .1 .0 .now) (a .1 .1 .1 .1 .0) (are .0) (are .1 .0) (are .1 .1 .0)
+      (are .1 .1 .1 .1 .0 .1) C Λ fm known-cell known-recipe known-second known-number))
 
   goes : AllGo 𝓤 H A W 4 (f.signature .params) (f.ended .kept) stayed
   goes = (
@@ -307,7 +413,8 @@ report-record-meets : {M : Type 1} (𝓤 : URA M) (H : Heap 𝓤) (A : Atoms �
     → Triple 𝓤 (𝓣 .C #run·report-record) (Second 𝓤 H A at-mem runs) → Triple 𝓤 (𝓣 .C #capi·refusal-number) (Number 𝓤 H A at-mem runs)
     → Meets 𝓤 H A f.signature (WpFn 𝓤 H (𝓣 .C) (𝓣 .Λ) code.function) (f.spec 𝓤 H A at-mem runs)
 report-record-meets 𝓤 H A W at-mem runs 𝓣 known-cell known-recipe known-second known-number =
-    walk-meets 𝓤 H A f.ended stayed W (goes 𝓤 H A W at-mem runs) (f.clauses 𝓤 H A at-mem runs) (WpFn 𝓤 H (𝓣 .C) (𝓣 .Λ) code.function) (WpFn-mono 𝓤 H (W .laws) 𝓣 code.function)
+    walk-meets 𝓤 H A f.ended stayed W (goes 𝓤 H A W at-mem runs) (f.clauses 𝓤 H A at-mem runs)
+    (WpFn 𝓤 H (𝓣 .C) (𝓣 .Λ) code.function) (WpFn-mono 𝓤 H (W .laws) 𝓣 code.function)
     (report-record-walks 𝓤 H A W at-mem runs (𝓣 .C) (𝓣 .Λ) (fmOf 𝓤 H (W .laws) 𝓣) known-cell known-recipe known-second known-number)
 
 pub cellplan-report-record-spec : {M : Type 1} → stated.statement M
@@ -316,7 +423,10 @@ cellplan-report-record-spec 𝓤 H 𝓜 𝓖 𝓡 =
     entered 𝓤 H (tripleOf 𝓤 H (𝓖 .A) f.signature (f.spec 𝓤 H (𝓖 .A) (𝓜 .mem) (𝓡 .run)))
     (tables 𝓤 H 𝓜 𝓡 code.env .C) (tables 𝓤 H 𝓜 𝓡 code.env .Λ) #capi·cellplan-report-record code.function (code.unfolded 𝓤 H 𝓜 𝓡)
     (report-record-meets 𝓤 H (𝓖 .A) (givenOf 𝓤 H 𝓜 𝓖) (𝓜 .mem) (𝓡 .run) (tablesOf 𝓤 H 𝓜 (tables 𝓤 H 𝓜 𝓡 code.env))
-    (cited 𝓤 H (GetCell 𝓤 H (𝓖 .A) (𝓜 .mem) (𝓡 .run)) 𝓜 𝓡 code.env #capi·get·get-cell get-cell-def.routine code.calls-capi·get·get-cell (get-cell-thm.met 𝓤 H 𝓜 𝓖 𝓡))
-    (cited 𝓤 H (GetRecipe 𝓤 H (𝓖 .A) (𝓜 .mem) (𝓡 .run)) 𝓜 𝓡 code.env #capi·get·get-recipe get-recipe-def.routine code.calls-capi·get·get-recipe (get-recipe-thm.met 𝓤 H 𝓜 𝓖 𝓡))
+    (cited 𝓤 H (GetCell 𝓤 H (𝓖 .A) (𝓜 .mem) (𝓡 .run)) 𝓜 𝓡 code.env #capi·get·get-cell get-cell-def.routine
+    code.calls-capi·get·get-cell (get-cell-thm.met 𝓤 H 𝓜 𝓖 𝓡))
+    (cited 𝓤 H (GetRecipe 𝓤 H (𝓖 .A) (𝓜 .mem) (𝓡 .run)) 𝓜 𝓡 code.env #capi·get·get-recipe get-recipe-def.routine
+    code.calls-capi·get·get-recipe (get-recipe-thm.met 𝓤 H 𝓜 𝓖 𝓡))
     (cited 𝓤 H (Second 𝓤 H (𝓖 .A) (𝓜 .mem) (𝓡 .run)) 𝓜 𝓡 code.env #run·report-record second-def.routine code.calls-run·report-record (second-thm.met 𝓤 H 𝓜 𝓖 𝓡))
-    (cited 𝓤 H (Number 𝓤 H (𝓖 .A) (𝓜 .mem) (𝓡 .run)) 𝓜 𝓡 code.env #capi·refusal-number number-def.routine code.calls-capi·refusal-number (number-thm.met 𝓤 H 𝓜 𝓖 𝓡)))
+    (cited 𝓤 H (Number 𝓤 H (𝓖 .A) (𝓜 .mem) (𝓡 .run)) 𝓜 𝓡 code.env #capi·refusal-number number-def.routine
+    code.calls-capi·refusal-number (number-thm.met 𝓤 H 𝓜 𝓖 𝓡)))

@@ -1,5 +1,6 @@
 use mathlib.Core.Path.{sym, _∙_}
 use Rattle.cell.specs.Rules.{cellRules, checkCell}
+use Rattle.cell.specs.Steps.{afterRange}
 use Rattle.refusals.proofs.Verdicts.{count-in-range}
 use Rattle.refusals.proofs.Rules.{refuses, accepts}
 use borrow.Author.Needs.{needs}
@@ -16,7 +17,7 @@ enum-told-2 : tie.Need-enum-told-2
 enum-told-2 c = search needs
 
 returns : tie.Need-returns
-unfolding checkCell cellRules
+unfolding checkCell cellRules afterRange
 returns c = refuses _ (c .before .before .check-count .ensures) (c .enum-told2 .given .1)
 
 check-ranges-requires : tie.Need-check-ranges-requires
@@ -29,15 +30,25 @@ enum-told-4 : tie.Need-enum-told-4
 enum-told-4 c = search needs
 
 returns-2 : tie.Need-returns-2
-unfolding checkCell cellRules
-returns-2 c = accepts _ (c .before .before .before .before .before .check-count .ensures) (c .before .before .before .enum-told .given .1) (refuses _ (c .before .before .check-ranges .ensures) (c .enum-told4 .given .1))
+unfolding checkCell cellRules afterRange
+returns-2 c =
+    accepts _ (c .before .before .before .before .before .check-count .ensures)
+    (c .before .before .before .enum-told .given .1)
+    (refuses _ (c .before .before .check-ranges .ensures) (c .enum-told4 .given .1))
 
 check-ports-requires : tie.Need-check-ports-requires
-check-ports-requires c κs = count-in-range _ (sym (c .before .before .before .before .before .check-count .ensures) ∙ c .before .before .before .enum-told .given .1) .most
+check-ports-requires c κs =
+    count-in-range _
+    (sym (c .before .before .before .before .before .check-count .ensures)
+    ∙ c .before .before .before .enum-told .given .1) .most
 
 returns-3 : tie.Need-returns-3
-unfolding checkCell cellRules
-returns-3 c = accepts _ (c .before .before .before .before .before .before .check-count .ensures) (c .before .before .before .before .enum-told .given .1) (accepts _ (c .before .before .before .check-ranges .ensures) (c .before .enum-told3 .given .1) (c .check-ports .ensures))
+unfolding checkCell cellRules afterRange
+returns-3 c =
+    accepts _ (c .before .before .before .before .before .before .check-count .ensures)
+    (c .before .before .before .before .enum-told .given .1)
+    (accepts _ (c .before .before .before .check-ranges .ensures) (c .before .enum-told3 .given .1)
+    (c .check-ports .ensures))
 
 pub check-cell-spec : {M : Type 1} → statement M
 check-cell-spec =

@@ -1,4 +1,4 @@
-use Rattle.refusals.specs.Verdict.{firstLine}
+use Rattle.refusals.proofs.Verdicts.{line}
 use Rattle.cell.specs.Rules.{rule4}
 use borrow.Author.Needs.{needs}
 use Rattle.cell.proofs.check_ranges.Statement.{statement}
@@ -11,8 +11,8 @@ at-line-requires : tie.Need-at-line-requires
 at-line-requires c κs = search needs
 
 returns : tie.Need-returns
-unfolding rule4 firstLine
-returns c = rw (c .before .first-out-of-range .ensures) at (c .at-line .ensures)
+unfolding rule4
+returns c = line _ _ _ _ (c .before .first-out-of-range .ensures) (c .at-line .ensures)
 
 pub check-ranges-spec : {M : Type 1} → statement M
 check-ranges-spec = tie.close (tie.spec first-out-of-range-requires at-line-requires returns)

@@ -1,11 +1,13 @@
 use mathlib.Core.Path.{sym, _∙_}
 use native.Mathlib.Omega.{arith}
 use borrow.Author.Tests.{not-true, not-false}
-use Rattle.refusals.specs.Verdict.{firstRefusal}
+use Rattle.refusals.specs.Verdict.{firstRefusal, ifAccepted}
 use Rattle.tables.specs.Table.{rule1, rule2}
-use Rattle.tables.proofs.KeptNumbers.{whole, broken, broken-few}
+use Rattle.tables.proofs.NamesLine.{starts-named}
+use Rattle.tables.proofs.KeptNumbers.{whole, broken, breaks-is, broken-few}
 use Rattle.cell.specs.Rules.{checkCell}
-use Rattle.cell.specs.Reader.{cellNames, judgeCell, reading, readCell}
+use Rattle.cell.specs.Reader.{cellNames, judgeCell, readCell}
+use Rattle.cell.specs.Steps.{reading}
 use borrow.Author.Needs.{needs}
 use Rattle.cell.proofs.read_cell.Statement.{statement}
 use Rattle.cell.proofs.read_cell.Tie as tie
@@ -20,7 +22,7 @@ refused-requires : tie.Need-refused-requires
 refused-requires c κs = search needs
 
 returns : tie.Need-returns
-unfolding firstRefusal rule1 cellNames judgeCell reading readCell
+unfolding firstRefusal rule1 cellNames judgeCell reading ifAccepted readCell
 returns c = c .refused .ensures ∙ rw (sym (c .before .before .has-names .ensures) ∙ not-true _ (c .before .if1 .taken))
 
 slice-aggregate-check-lines : tie.Need-slice-aggregate-check-lines
@@ -33,7 +35,12 @@ enum-known-n : tie.Need-enum-known-n
 enum-known-n c = search needs
 
 add-refused : tie.Need-add-refused
-add-refused c = let f = c .before .before .before .before .before .before .before .before .before .before .args .file .now in let b = broken 5 f (c .before .n .given .0 .0) (sym (c .before .n .given .1) ∙ c .before .before .before .before .check-lines .ensures .form-is) in omega (arith, b .1, broken-few 5 f)
+add-refused c =
+    let f = c .before .before .before .before .before .before .before .before .before .before .args .file .now in
+    let b =
+    broken 5 f (c .before .n .given .0 .0)
+    (sym (c .before .n .given .1) ∙ c .before .before .before .before .check-lines .ensures .form-is) in
+    omega (arith, b .1, broken-few 5 f)
 
 refused-requires-2 : tie.Need-refused-requires-2
 refused-requires-2 c κs = search needs
@@ -48,12 +55,28 @@ read-lines-requires : tie.Need-read-lines-requires
 read-lines-requires c κs = search needs
 
 returns-2 : tie.Need-returns-2
-unfolding firstRefusal rule1 rule2 cellNames judgeCell reading readCell
-returns-2 c = let told = c .before .before in let C = told .before .before .before .check-lines .ensures in let b = broken 5 (c .before .before .before .before .before .before .before .before .before .before .before .args .file .now) (told .n .given .0 .0) (sym (told .n .given .1) ∙ C .form-is) in c .refused2 .ensures ∙ rw (sym (c .before .before .before .before .before .before .before .before .has-names .ensures) ∙ not-false _ (c .before .before .before .before .before .before .before .if1 .left), b .0, b .1)
+unfolding firstRefusal rule1 rule2 cellNames judgeCell reading ifAccepted readCell
+returns-2 c =
+    let told = c .before .before in
+    let C = told .before .before .before .check-lines .ensures in
+    let after = told .before .before .before .before .before in
+    let f = after .before .before .before .before .args .file .now in
+    let good = sym (after .before .has-names .ensures) ∙ not-false _ (after .if1 .left) in
+    let b = broken 5 f (told .n .given .0 .0) (sym (told .n .given .1) ∙ C .form-is) in
+    c .refused2 .ensures ∙ rw (good, sym (breaks-is 5 f (starts-named cellNames f good)) ∙ b .0, b .1)
 
 returns-3 : tie.Need-returns-3
-unfolding firstRefusal rule1 rule2 cellNames judgeCell reading readCell checkCell
-returns-3 c = let told = c .before .before .before in let f = c .before .before .before .before .before .before .before .before .before .before .before .before .args .file .now in let n = told .count .given .0 .0 in let C = told .before .before .before .check-lines .ensures in let b = whole 5 f n (sym (told .count .given .1) ∙ C .form-is) in c .read-lines .ensures f (b .1) (C .kept n (told .count .given .1)) ∙ rw (sym (c .before .before .before .before .before .before .before .before .before .has-names .ensures) ∙ not-false _ (c .before .before .before .before .before .before .before .before .if1 .left), b .0)
+unfolding firstRefusal rule1 rule2 cellNames judgeCell reading ifAccepted readCell checkCell
+returns-3 c =
+    let told = c .before .before .before in
+    let C = told .before .before .before .check-lines .ensures in
+    let after = told .before .before .before .before .before in
+    let f = after .before .before .before .before .args .file .now in
+    let good = sym (after .before .has-names .ensures) ∙ not-false _ (after .if1 .left) in
+    let n = told .count .given .0 .0 in
+    let b = whole 5 f n (sym (told .count .given .1) ∙ C .form-is) in
+    c .read-lines .ensures f (b .1) (C .kept n (told .count .given .1))
+    ∙ rw (good, sym (breaks-is 5 f (starts-named cellNames f good)) ∙ b .0)
 
 pub read-cell-spec : {M : Type 1} → statement M
 read-cell-spec =

@@ -23,7 +23,9 @@ at-line-requires c κs = search needs
 
 returns-2 : tie.Need-returns-2
 unfolding rule9 rule10
-returns-2 c = kept _ _ _ _ (c .before .before .before .before .first-unused .ensures) _ (c .before .before .if1 .left) (decides (line _ _ _ _ (c .before .first-without-parts .ensures) (c .at-line .ensures)))
+returns-2 c =
+    kept _ _ _ _ (c .before .before .before .before .first-unused .ensures) _ (c .before .before .if1 .left)
+    (decides (line _ _ _ _ (c .before .first-without-parts .ensures) (c .at-line .ensures)))
 
 pub check-fields-spec : {M : Type 1} → statement M
 check-fields-spec =

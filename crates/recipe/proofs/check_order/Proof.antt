@@ -17,14 +17,21 @@ unfolding rule7
 returns c = broken _ _ _ _ (c .before .first-out-of-order .ensures) _ (c .if1 .taken)
 
 first-bad-repeat-requires : tie.Need-first-bad-repeat-requires
-first-bad-repeat-requires c κs = (c .before .before .before .before .before .before .before .before .before .pre, first-all _ _ _ (c .before .before .before .before .first-out-of-order .ensures) (c .before .before .before .if1 .left))
+first-bad-repeat-requires c κs = (
+  c .before .before .before .before .before .before .before .before .before .pre,
+  first-all _ _ _ (c .before .before .before .before .first-out-of-order .ensures)
+      (c .before .before .before .if1 .left),
+)
 
 at-line-requires : tie.Need-at-line-requires
 at-line-requires c κs = search needs
 
 returns-2 : tie.Need-returns-2
 unfolding rule7 rule8
-returns-2 c = kept _ _ _ _ (c .before .before .before .before .before .before .first-out-of-order .ensures) _ (c .before .before .before .before .before .if1 .left) (decides (line _ _ _ _ (c .before .first-bad-repeat .ensures) (c .at-line .ensures)))
+returns-2 c =
+    kept _ _ _ _ (c .before .before .before .before .before .before .first-out-of-order .ensures) _
+    (c .before .before .before .before .before .if1 .left)
+    (decides (line _ _ _ _ (c .before .first-bad-repeat .ensures) (c .at-line .ensures)))
 
 pub check-order-spec : {M : Type 1} → statement M
 check-order-spec =

@@ -3,7 +3,8 @@ use mathlib.Core.List.{List, [], _∷_, _++_}
 use Rattle.refusals.specs.declared.Verdict.{Verdict}
 use Rattle.refusals.proofs.Rules.{first-accepts, part-refuses, part-accepts}
 use Rattle.recipe.specs.declared.Recipe.{Recipe}
-use Rattle.recipe.specs.Rules.{rule7, rule8, rule9, rule10, rule11, rule12, afterRange}
+use Rattle.recipe.specs.Rules.{rule7, rule8, rule9, rule10, rule11, rule12}
+use Rattle.recipe.specs.Steps.{afterRange}
 use borrow.Author.Needs.{needs}
 use Rattle.recipe.proofs.check_points.Statement.{statement}
 use Rattle.recipe.proofs.check_points.Tie as tie
@@ -46,17 +47,25 @@ returns-2 : tie.Need-returns-2
 unfolding afterRange
 returns-2 c =
     let r = c .before .before .before .before .before .before .args .recipe in
-    part-accepts (orders r) (fields r ++ parts r) (c .before .before .before .before .before .check-order .ensures) (c .before .before .before .enum-told .given .1)
+    part-accepts (orders r) (fields r ++ parts r) (c .before .before .before .before .before .check-order .ensures)
+    (c .before .before .before .enum-told .given .1)
     (part-refuses (fields r) (parts r) (c .before .before .check-fields .ensures) (c .enum-told4 .given .1))
 
 check-parts-requires : tie.Need-check-parts-requires
-check-parts-requires c κs = (c .before .before .before .before .before .before .pre, first-accepts _ _ (sym (c .before .before .before .before .before .check-order .ensures) ∙ c .before .before .before .enum-told .given .1))
+check-parts-requires c κs = (
+  c .before .before .before .before .before .before .pre,
+  first-accepts _ _
+      (sym (c .before .before .before .before .before .check-order .ensures)
+      ∙ c .before .before .before .enum-told .given .1),
+)
 
 returns-3 : tie.Need-returns-3
 unfolding afterRange
 returns-3 c =
     let r = c .before .before .before .before .before .before .before .args .recipe in
-    part-accepts (orders r) (fields r ++ parts r) (c .before .before .before .before .before .before .check-order .ensures) (c .before .before .before .before .enum-told .given .1)
+    part-accepts (orders r) (fields r ++ parts r)
+    (c .before .before .before .before .before .before .check-order .ensures)
+    (c .before .before .before .before .enum-told .given .1)
     (part-accepts (fields r) (parts r) (c .before .before .before .check-fields .ensures) (c .before .enum-told3 .given .1) (c .check-parts .ensures))
 
 pub check-points-spec : {M : Type 1} → statement M

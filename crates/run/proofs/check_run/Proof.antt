@@ -4,8 +4,8 @@ use Rattle.refusals.proofs.Verdicts.{noLine-broken, noLine-kept}
 use Rattle.refusals.proofs.Rules.{refuses, accepts, decides}
 use Rattle.refusals.specs.declared.Refusal.the-variants.{RunRange}
 use Rattle.positions.specs.Rules.{rule16}
-use Rattle.run.specs.Calls.{runRules}
 use borrow.Author.Needs.{needs}
+use Rattle.run.specs.Calls.{runRules}
 use Rattle.run.proofs.check_run.Statement.{statement}
 use Rattle.run.proofs.check_run.Tie as tie
 
@@ -27,11 +27,15 @@ is-position-requires c κs = search needs
 
 returns-2 : tie.Need-returns-2
 unfolding runRules rule16
-returns-2 c = accepts _ (c .before .before .before .before .check-size .ensures) (c .before .before .enum-told .given .1) (decides (sym (noLine-broken RunRange _ (ap not (sym (c .before .is-position .ensures)) ∙ c .if1 .taken))))
+returns-2 c =
+    accepts _ (c .before .before .before .before .check-size .ensures) (c .before .before .enum-told .given .1)
+    (decides (sym (noLine-broken RunRange _ (ap not (sym (c .before .is-position .ensures)) ∙ c .if1 .taken))))
 
 returns-3 : tie.Need-returns-3
 unfolding runRules rule16
-returns-3 c = accepts _ (c .before .before .before .before .check-size .ensures) (c .before .before .enum-told .given .1) (decides (sym (noLine-kept RunRange _ (ap not (sym (c .before .is-position .ensures)) ∙ c .if1 .left))))
+returns-3 c =
+    accepts _ (c .before .before .before .before .check-size .ensures) (c .before .before .enum-told .given .1)
+    (decides (sym (noLine-kept RunRange _ (ap not (sym (c .before .is-position .ensures)) ∙ c .if1 .left))))
 
 pub check-run-spec : {M : Type 1} → statement M
 check-run-spec =

@@ -5,8 +5,8 @@ use Rattle.refusals.proofs.Verdicts.{noLine-broken, noLine-kept}
 use Rattle.refusals.proofs.Rules.{refuses, accepts, decides}
 use Rattle.refusals.specs.declared.Refusal.the-variants.{TooShort, RunRange}
 use Rattle.positions.specs.Rules.{rule14, rule16}
-use Rattle.run.specs.Calls.{tableRules}
 use borrow.Author.Needs.{needs}
+use Rattle.run.specs.Calls.{tableRules}
 use Rattle.run.proofs.check_table.Statement.{statement}
 use Rattle.run.proofs.check_table.Tie as tie
 
@@ -25,7 +25,9 @@ returns c = refuses _ (c .before .before .check-size .ensures) (c .enum-told2 .g
 
 returns-2 : tie.Need-returns-2
 unfolding tableRules rule14
-returns-2 c = accepts _ (c .before .before .before .before .check-size .ensures) (c .before .before .enum-told .given .1) (refuses _ (sym (noLine-broken TooShort _ (lt-ltb _ _ (c .if1 .taken)))) refl)
+returns-2 c =
+    accepts _ (c .before .before .before .before .check-size .ensures) (c .before .before .enum-told .given .1)
+    (refuses _ (sym (noLine-broken TooShort _ (lt-ltb _ _ (c .if1 .taken)))) refl)
 
 is-position-requires : tie.Need-is-position-requires
 is-position-requires c κs = search needs
@@ -34,13 +36,17 @@ returns-3 : tie.Need-returns-3
 unfolding tableRules rule14 rule16
 returns-3 c =
     let at-check-size = c .before .before .before .before .before .before in
-    accepts _ (at-check-size .check-size .ensures) (c .before .before .before .before .enum-told .given .1) (accepts _ (sym (noLine-kept TooShort _ (le-ltb _ _ (c .before .before .if1 .left)))) refl (decides (sym (noLine-broken RunRange _ (ap not (sym (c .before .is-position .ensures)) ∙ c .if2 .taken)))))
+    accepts _ (at-check-size .check-size .ensures) (c .before .before .before .before .enum-told .given .1)
+    (accepts _ (sym (noLine-kept TooShort _ (le-ltb _ _ (c .before .before .if1 .left)))) refl
+    (decides (sym (noLine-broken RunRange _ (ap not (sym (c .before .is-position .ensures)) ∙ c .if2 .taken)))))
 
 returns-4 : tie.Need-returns-4
 unfolding tableRules rule14 rule16
 returns-4 c =
     let at-check-size = c .before .before .before .before .before .before in
-    accepts _ (at-check-size .check-size .ensures) (c .before .before .before .before .enum-told .given .1) (accepts _ (sym (noLine-kept TooShort _ (le-ltb _ _ (c .before .before .if1 .left)))) refl (decides (sym (noLine-kept RunRange _ (ap not (sym (c .before .is-position .ensures)) ∙ c .if2 .left)))))
+    accepts _ (at-check-size .check-size .ensures) (c .before .before .before .before .enum-told .given .1)
+    (accepts _ (sym (noLine-kept TooShort _ (le-ltb _ _ (c .before .before .if1 .left)))) refl
+    (decides (sym (noLine-kept RunRange _ (ap not (sym (c .before .is-position .ensures)) ∙ c .if2 .left)))))
 
 pub check-table-spec : {M : Type 1} → statement M
 check-table-spec =

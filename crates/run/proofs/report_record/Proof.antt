@@ -1,4 +1,5 @@
--- `run::report_record` meets its contract: a walk of its MIR, by hand. The borrow is opened, the record is copied and handed to `report`, the run that comes back is stored over the record, and the borrow is closed at that run.
+-- `run::report_record` meets its contract: a walk of its MIR, by hand. The borrow is opened, the record is copied and handed to
+-- `report`, the run that comes back is stored over the record, and the borrow is closed at that run.
 -- All that the proof knows of `report` is that it meets its contract.
 -- Assumes nothing.
 use mathlib.Core.Path.{_≡_, refl, ap}
@@ -17,8 +18,10 @@ use prog.Wp.{Heap, Calls, Loops, WpFn, Tables}
 use ghost.Atoms.{Atoms, sem}
 use contract.Monad.{Fun, fact}
 use contract.Running.{givenOf, tables, tablesOf}
-use types.Kit.{Given, ‵, raw, _⊛_, ⋆, some, later, _$_, _∵_, !, qed, by, move, drop, use1, use2, split, join, pick, rewrite, fsplit, fsplit3, fjoin, fjoin3, feqI, suffices, frame, await, done}
-use types.Run.{look, look-raw, init, store-raw, forget, stop, hop, fld, from, load, of-opd, and-then, no-more, assigns, land, returns, enter, alloc1, alloc0, params1, pass1, pass0, free1, free0}
+use types.Kit.{Given, ‵, raw, _⊛_, ⋆, some, later, _$_, _∵_, !, qed, by, move, drop, use1, use2, split, join, pick, rewrite, fsplit}
+use types.Kit.{fsplit3, fjoin, fjoin3, feqI, suffices, frame, await, done}
+use types.Run.{look, look-raw, init, store-raw, forget, stop, hop, fld, from, load, of-opd, and-then, no-more, assigns, land, returns}
+use types.Run.{enter, alloc1, alloc0, params1, pass1, pass0, free1, free0}
 use types.Part.{whole, sub, look-in}
 use types.SemTy.{Body}
 use sound.WpLaws.{FmC, fmOf, WpFn-mono}
@@ -39,7 +42,8 @@ use denote.Triple.Call.{calls-at}
 use denote.Triple.Entry.{onEntry}
 use denote.Triple.Spec.{Meets, tripleOf}
 use denote.Triple.Table.{entered, cited}
-use denote.Triple.Walked.{says, Stays, stay-ref, stay-none, stay-none-slice, walkOf, AllGo, goes-ref, goes-none, goes-none-slice, Walks, ends-at, walked, walk-meets}
+use denote.Triple.Walked.{says, Stays, stay-ref, stay-none, stay-none-slice, walkOf, AllGo, goes-ref, goes-none, goes-none-slice, Walks}
+use denote.Triple.Walked.{ends-at, walked, walk-meets}
 use denote.Triple.Clauses.{ensured, lasts}
 use denote.Exit.{yes}
 use Rattle.refusals.specs.declared.Verdict.{Verdict}
@@ -97,7 +101,10 @@ run-in r vs is = LL.owed S.the-type S′.the-laws r vs is .1 .0
 verdict-in : (r : Report) (vs : List Val) → Is S.the-row r vs → Is Ve.the-row (r .verdict) (verdict-val (r .verdict) ∷ [])
 verdict-in r vs is = LL.owed S.the-type S′.the-laws r vs is .0
 
-module _ {M : Type 1} (𝓤 : URA M) (H : Heap 𝓤) (A : Atoms 𝓤) (W : Given 𝓤 H A) (at-mem : Memory → SProp 𝓤) (runs : Routine → Fun 𝓤) (κ κ′ : Lft) (q q′ : Share) (b o : ℕ) (γ : GName) (h : Run) (c : Cell) (r : Recipe) (t : RefT (List ℕ)) (n : ℕ) (c-is : Is Ce.the-row c (cell-val c ∷ [])) (r-is : Is Re.the-row r (recipe-val r ∷ [])) (t-is : Is (ShrSlice (named 1) κ′ u32) t (slice-vals t)) (n-fits : n < 2 ^ 8) where
+module _ {M : Type 1} (𝓤 : URA M) (H : Heap 𝓤) (A : Atoms 𝓤) (W : Given 𝓤 H A) (at-mem : Memory → SProp 𝓤)
+    (runs : Routine → Fun 𝓤) (κ κ′ : Lft) (q q′ : Share) (b o : ℕ) (γ : GName) (h : Run) (c : Cell) (r : Recipe)
+    (t : RefT (List ℕ)) (n : ℕ) (c-is : Is Ce.the-row c (cell-val c ∷ [])) (r-is : Is Re.the-row r (recipe-val r ∷ []))
+    (t-is : Is (ShrSlice (named 1) κ′ u32) t (slice-vals t)) (n-fits : n < 2 ^ 8) where
   -- the machine value of the table
   abbrev s : Val
   s = sliceVal (t .ptr) (length (t .now))
@@ -138,9 +145,15 @@ module _ {M : Type 1} (𝓤 : URA M) (H : Heap 𝓤) (A : Atoms 𝓤) (W : Given
   to = (((κ′, tt), (q′, tt), tt, (h, rest), (run-val h ∷ [], rest-vals)), tt)
 
   asked : ent 𝓤 (onEntry 𝓤 H A report.signature (κ′, tt) (q′, tt) (h, rest) (run-val h ∷ [], rest-vals)) (ByValue 𝓤 H A at-mem runs .pre to)
-  asked = qed W ((‵ (flft κ′ q′) ⊛ ‵ ftrue) ∷ ‵ (owns (R.the-row ∷ Ce.the-row ∷ Re.the-row ∷ ShrSlice (named 0) κ′ u32 ∷ u8 ∷ []) (h, rest) (run-val h ∷ [], rest-vals)) ∷ []) ∵ join ! $ frame ! $ done !
+  asked =
+      qed W
+      ((‵ (flft κ′ q′) ⊛ ‵ ftrue) ∷ ‵
+      (owns (R.the-row ∷ Ce.the-row ∷ Re.the-row ∷ ShrSlice (named 0) κ′ u32 ∷ u8 ∷ []) (h, rest)
+      (run-val h ∷ [], rest-vals)) ∷ []) ∵ join ! $ frame ! $ done !
 
-  goes-report : Is R.the-row h (run-val h ∷ []) → ent 𝓤 (⋆ 𝓤 H A ((‵ (flft κ′ q′) ⊛ ‵ ftrue) ∷ ‵ Owns ∷ [])) (sep 𝓤 (ByValue 𝓤 H A at-mem runs .pre to) (sem 𝓤 H A Own))
+  goes-report : Is R.the-row h (run-val h ∷ [])
+      → ent 𝓤 (⋆ 𝓤 H A ((‵ (flft κ′ q′) ⊛ ‵ ftrue) ∷ ‵ Owns ∷ []))
+      (sep 𝓤 (ByValue 𝓤 H A at-mem runs .pre to) (sem 𝓤 H A Own))
   goes-report h-is =
       qed W ((‵ (flft κ′ q′) ⊛ ‵ ftrue) ∷ ‵ Owns ∷ []) ∵ move ! (1 ∷ []) $ fsplit ! $ drop ! $ fsplit ! $ drop ! $ fsplit ! $
       -- [what the table's borrow owns; what the outcome owns; the token]
@@ -154,10 +167,18 @@ module _ {M : Type 1} (𝓤 : URA M) (H : Heap 𝓤) (A : Atoms 𝓤) (W : Given
   said : (x : Report) → ent 𝓤 (ensured 𝓤 H A report.ended (report.clauses 𝓤 H A at-mem runs) (κ′, tt) (h, rest) tt x) (fact 𝓤 (x ≡ found))
   said x = exE 𝓤 _ (λ ws. snd∗ 𝓤 (sem 𝓤 H A (lasts report.ended (κ′, tt) (h, rest) ws)) (fact 𝓤 (x ≡ found)))
 
-  exits : (x : Report) → x ≡ found → Is Ve.the-row (x .verdict) (verdict-val (x .verdict) ∷ []) → ent 𝓤 (⋆ 𝓤 H A (‵ (fobs γ (R.the-row .coded .code (x .run))) ∷ ‵ (fbor κ (Body (mem R.the-row) b o γ)) ∷ ‵ (flft κ q) ∷ (‵ (flft κ′ q′) ⊛ ‵ ftrue) ∷ ‵ Own ∷ [])) (Post (verdict-val (x .verdict)))
+  exits : (x : Report) → x ≡ found → Is Ve.the-row (x .verdict) (verdict-val (x .verdict) ∷ [])
+      → ent 𝓤
+      (⋆ 𝓤 H A
+      (‵ (fobs γ (R.the-row .coded .code (x .run))) ∷ ‵ (fbor κ (Body (mem R.the-row) b o γ)) ∷ ‵ (flft κ q) ∷
+      (‵ (flft κ′ q′) ⊛ ‵ ftrue) ∷ ‵ Own ∷ []))
+      (Post (verdict-val (x .verdict)))
   exits x e is =
       qed W (‵ (fobs γ (R.the-row .coded .code (x .run))) ∷ ‵ (fbor κ (Body (mem R.the-row) b o γ)) ∷ ‵ (flft κ q) ∷ (‵ (flft κ′ q′) ⊛ ‵ ftrue) ∷ ‵ Own ∷ []) ∵
-      suffices ! _ (ends-at 𝓤 H A f.ended stayed (f.clauses 𝓤 H A at-mem runs) W (((κ, (κ′, tt)), (q, (q′, tt)), tt, a, vals), tt) (verdict-val (x .verdict)) (x .verdict) (x .run, (tt, (tt, (tt, (tt, tt))))) (tt, (tt, (tt, (tt, (tt, tt)))))) $
+      suffices ! _
+      (ends-at 𝓤 H A f.ended stayed (f.clauses 𝓤 H A at-mem runs) W
+      (((κ, (κ′, tt)), (q, (q′, tt)), tt, a, vals), tt) (verdict-val (x .verdict)) (x .verdict)
+      (x .run, (tt, (tt, (tt, (tt, tt))))) (tt, (tt, (tt, (tt, (tt, tt)))))) $
       says ! (record { told = ap (λ (y : Report). y .verdict) e; kept = ap (λ (y : Report). y .run) e }) $
       move ! (2 ∷ 3 ∷ []) $ join ! $ frame ! $
       -- [what observes the record; the borrow; what the table's borrow owns]
@@ -169,38 +190,67 @@ module _ {M : Type 1} (𝓤 : URA M) (H : Heap 𝓤) (A : Atoms 𝓤) (W : Given
       owned ! Ve.the-row (Is Ve.the-row) (EL.makes Ve.the-type Ve′.the-plain 𝓤 H A) (x .verdict) _ is $ move ! (1 ∷ 0 ∷ []) $ done !
 
   module _ (C : Calls 𝓤 H) (Λ : Loops 𝓤 H) (fm : FmC 𝓤 H (W .laws) C) (known : Triple 𝓤 (C #run·Run·report) (ByValue 𝓤 H A at-mem runs)) where
-    walk : ent 𝓤 (onEntry 𝓤 H A f.signature (κ, (κ′, tt)) (q, (q′, tt)) a vals) (WpFn 𝓤 H C Λ code.function (vptr b o ∷ cell-val c ∷ recipe-val r ∷ s ∷ vint w8 n ∷ []) Post)
+    walk : ent 𝓤 (onEntry 𝓤 H A f.signature (κ, (κ′, tt)) (q, (q′, tt)) a vals)
+        (WpFn 𝓤 H C Λ code.function (vptr b o ∷ cell-val c ∷ recipe-val r ∷ s ∷ vint w8 n ∷ []) Post)
     walk =
-        qed W ((‵ (flft κ q) ⊛ ‵ (flft κ′ q′) ⊛ ‵ ftrue) ∷ ‵ (owns (MutRef (named 0) κ R.the-row ∷ Ce.the-row ∷ Re.the-row ∷ ShrSlice (named 1) κ′ u32 ∷ u8 ∷ []) a vals) ∷ []) ∵
+        qed W
+        ((‵ (flft κ q) ⊛ ‵ (flft κ′ q′) ⊛ ‵ ftrue) ∷ ‵
+        (owns (MutRef (named 0) κ R.the-row ∷ Ce.the-row ∷ Re.the-row ∷ ShrSlice (named 1) κ′ u32 ∷ u8 ∷ []) a
+        vals) ∷ []) ∵
         enter ! C Λ code.function (vptr b o ∷ cell-val c ∷ recipe-val r ∷ s ∷ vint w8 n ∷ []) _ $
         alloc1 ! (λ l₀. alloc1 ! (λ l₁. alloc1 ! (λ l₂. alloc1 ! (λ l₃. alloc1 ! (λ l₄. alloc1 ! (λ l₅. alloc1 ! (λ l₆. alloc1 ! (λ l₇. alloc0 ! $ params1 ! $
-        pass1 ! (init ! 12 refl (tt, tt)) $ pass1 ! (init ! 10 refl (LL.lawful Ce.the-type Ce′.the-laws 𝓤 H A W .typed c _ c-is .0)) $ pass1 ! (init ! 8 refl (LL.lawful Re.the-type Re′.the-laws 𝓤 H A W .typed r _ r-is .0)) $
-        pass1 ! (init ! 6 refl (shr-slice-lawful 𝓤 H A W (named 1) κ′ u32 .typed t _ t-is .0)) $ pass1 ! (init ! 4 refl (tt, record { fits = n-fits })) $ pass0 ! $
+        pass1 ! (init ! 12 refl (tt, tt)) $ pass1 !
+        (init ! 10 refl (LL.lawful Ce.the-type Ce′.the-laws 𝓤 H A W .typed c _ c-is .0)) $ pass1 !
+        (init ! 8 refl (LL.lawful Re.the-type Re′.the-laws 𝓤 H A W .typed r _ r-is .0)) $
+        pass1 ! (init ! 6 refl (shr-slice-lawful 𝓤 H A W (named 1) κ′ u32 .typed t _ t-is .0)) $ pass1 !
+        (init ! 4 refl (tt, record { fits = n-fits })) $ pass0 ! $
         -- the borrow is opened
         move ! (17 ∷ []) $ fsplit ! $ fsplit3 ! $ drop ! $ move ! (19 ∷ []) $ split ! $ move ! (2 ∷ 3 ∷ 0 ∷ []) $
-        opens ! tt R.the-row {h = h} b o (λ vs. spelt ! R.the-row (Is R.the-row) (shows 𝓤 H A R.the-row) (LL.vals R.the-type R′.the-laws) (LL.tells R.the-type R′.the-laws) fullShare h vs b o $
+        opens ! tt R.the-row {h = h} b o
+        (λ vs. spelt ! R.the-row (Is R.the-row) (shows 𝓤 H A R.the-row) (LL.vals R.the-type R′.the-laws)
+        (LL.tells R.the-type R′.the-laws) fullShare h vs b o $
         move ! (1 ∷ []) $ peeks ! R.the-row (Is R.the-row) (shows 𝓤 H A R.the-row) h (run-val h ∷ []) (λ was. move ! (1 ∷ 0 ∷ []) $
-        -- [the record's cell; what a Run owns; the open borrow; obs; auth; the table's token; what the rest owns; room for _7; …; room for _6; …; _5; …; _4; …; _3; …; _2; …; _1; …; room for _0; …]
-        assigns ! (of-opd ! (load ! (from ! (hop ! (look ! 19 refl) (stop !))) (look-raw ! 0 refl))) (from ! (stop !)) (init ! 9 refl (LL.lawful R.the-type R′.the-laws 𝓤 H A W .typed h _ was .0)) $
+        -- [the record's cell; what a Run owns; the open borrow; obs; auth; the table's token; what the rest owns; room for _7;
+        -- …; room for _6; …; _5; …; _4; …; _3; …; _2; …; _1; …; room for _0; …]
+        assigns ! (of-opd ! (load ! (from ! (hop ! (look ! 19 refl) (stop !))) (look-raw ! 0 refl)))
+        (from ! (stop !)) (init ! 9 refl (LL.lawful R.the-type R′.the-laws 𝓤 H A W .typed h _ was .0)) $
         move ! (5 ∷ 6 ∷ []) $ use2 W (raw (ByValue 𝓤 H A at-mem runs .pre to) ⊛ ‵ Own) (goes-report was) $ split ! $
         -- [what `report` asks; what the table's borrow owns; the record's cell; what a Run owns; the open borrow; obs; auth; room for _7; …]
         calls-at ! fm (ByValue 𝓤 H A at-mem runs) known to
-        (and-then ! (load ! (from ! (stop !)) (look ! 9 refl)) (and-then ! (load ! (from ! (stop !)) (look ! 17 refl)) (and-then ! (load ! (from ! (stop !)) (look ! 15 refl)) (and-then ! (load ! (from ! (stop !)) (look ! 13 refl)) (and-then ! (load ! (from ! (stop !)) (look ! 11 refl)) (no-more !))))))
+        (and-then ! (load ! (from ! (stop !)) (look ! 9 refl))
+        (and-then ! (load ! (from ! (stop !)) (look ! 17 refl))
+        (and-then ! (load ! (from ! (stop !)) (look ! 15 refl))
+        (and-then ! (load ! (from ! (stop !)) (look ! 13 refl))
+        (and-then ! (load ! (from ! (stop !)) (look ! 11 refl)) (no-more !))))))
         (λ u.
-        use1 W (later (some (λ (x : Report). ((‵ (flft κ′ q′) ⊛ ‵ ftrue) ⊛ ‵ (S.the-row .own x (u ∷ []))) ⊛ raw (ensured 𝓤 H A report.ended (report.clauses 𝓤 H A at-mem runs) (κ′, tt) (h, rest) tt x)))) (id⊢ 𝓤 _) $ await ! tt $ pick ! (λ x.
+        use1 W
+        (later
+        (some
+        (λ (x : Report). ((‵ (flft κ′ q′) ⊛ ‵ ftrue) ⊛ ‵ (S.the-row .own x (u ∷ []))) ⊛ raw
+        (ensured 𝓤 H A report.ended (report.clauses 𝓤 H A at-mem runs) (κ′, tt) (h, rest) tt x))))
+        (id⊢ 𝓤 _) $ await ! tt $ pick ! (λ x.
         split ! $ move ! (1 ∷ []) $ use1 W (raw (fact 𝓤 (x ≡ found))) (said x) $ heard ! (x ≡ found) (λ e. split ! $ move ! (1 ∷ []) $
         peeks ! S.the-row (Is S.the-row) (shows 𝓤 H A S.the-row) x (u ∷ []) (λ is.
-        -- [what the report owns; the table's token; what the table's borrow owns; the record's cell; what a Run owns; the open borrow; obs; auth; room for _7; …; _6; …]
+        -- [what the report owns; the table's token; what the table's borrow owns; the record's cell; what a Run owns; the open
+        -- borrow; obs; auth; room for _7; …; _6; …]
         land ! (from ! (stop !)) (init ! 8 refl (LL.lawful S.the-type S′.the-laws 𝓤 H A W .typed x _ is .0)) $
         rewrite ! 8 (λ (y : Val). ‵ (fat fullShare S′.mir l₇ 0 y)) (ap only (LL.tells S.the-type S′.the-laws x (u ∷ []) is)) refl $
-        assigns ! (of-opd ! (load ! (from ! (fld ! refl (stop !))) (look-in ! 8 (sub ! 1 refl (whole !))))) (from ! (hop ! (look ! 20 refl) (stop !))) (store-raw ! 3 refl (LL.lawful R.the-type R′.the-laws 𝓤 H A W .typed (x .run) _ (run-in x _ is) .0)) $
-        assigns ! (of-opd ! (load ! (from ! (fld ! refl (stop !))) (look-in ! 8 (sub ! 0 refl (whole !))))) (from ! (stop !)) (init ! 22 refl (EL.lawful Ve.the-type Ve′.the-laws 𝓤 H A W tt .typed (x .verdict) _ (verdict-in x _ is) .0)) $
+        assigns ! (of-opd ! (load ! (from ! (fld ! refl (stop !))) (look-in ! 8 (sub ! 1 refl (whole !)))))
+        (from ! (hop ! (look ! 20 refl) (stop !)))
+        (store-raw ! 3 refl (LL.lawful R.the-type R′.the-laws 𝓤 H A W .typed (x .run) _ (run-in x _ is) .0)) $
+        assigns ! (of-opd ! (load ! (from ! (fld ! refl (stop !))) (look-in ! 8 (sub ! 0 refl (whole !)))))
+        (from ! (stop !))
+        (init ! 22 refl
+        (EL.lawful Ve.the-type Ve′.the-laws 𝓤 H A W tt .typed (x .verdict) _ (verdict-in x _ is) .0)) $
         -- the borrow is closed at the run that came back
         drop ! $ move ! (3 ∷ []) $ drop ! $ owned ! R.the-row (Is R.the-row) (LL.makes R.the-type R′.the-plain 𝓤 H A) (x .run) _ (run-in x _ is) $
         move ! (3 ∷ 0 ∷ 4 ∷ 5 ∷ 6 ∷ []) $ closes ! tt R.the-row (x .run) (run-val (x .run) ∷ []) b o $
         -- [obs; the borrow; the record's token; the table's token; what the table's borrow owns; _7; …]
-        returns ! (look ! 19 refl) $ forget ! 5 refl $ forget ! 7 refl $ forget ! 9 refl $ forget ! 11 refl $ forget ! 13 refl $ forget ! 15 refl $ forget ! 17 refl $ forget ! 19 refl $
-        move ! (19 ∷ 20 ∷ []) $ free1 ! $ move ! (17 ∷ 18 ∷ []) $ free1 ! $ move ! (15 ∷ 16 ∷ []) $ free1 ! $ move ! (13 ∷ 14 ∷ []) $ free1 ! $ move ! (11 ∷ 12 ∷ []) $ free1 ! $ move ! (9 ∷ 10 ∷ []) $ free1 ! $ move ! (7 ∷ 8 ∷ []) $ free1 ! $ move ! (5 ∷ 6 ∷ []) $ free1 ! $ free0 ! $
+        returns ! (look ! 19 refl) $ forget ! 5 refl $ forget ! 7 refl $ forget ! 9 refl $ forget ! 11
+        refl $ forget ! 13 refl $ forget ! 15 refl $ forget ! 17 refl $ forget ! 19 refl $
+        move ! (19 ∷ 20 ∷ []) $ free1 ! $ move ! (17 ∷ 18 ∷ []) $ free1 ! $ move ! (15 ∷ 16 ∷ []) $ free1 ! $ move !
+        (13 ∷ 14 ∷ []) $ free1 ! $ move ! (11 ∷ 12 ∷ []) $ free1 ! $ move ! (9 ∷ 10 ∷ []) $ free1 ! $ move !
+        (7 ∷ 8 ∷ []) $ free1 ! $ move ! (5 ∷ 6 ∷ []) $ free1 ! $ free0 ! $
         by ! (exits x e (verdict-in x _ is))))))))))))))))
 
 module _ {M : Type 1} (𝓤 : URA M) (H : Heap 𝓤) (A : Atoms 𝓤) (W : Given 𝓤 H A) (at-mem : Memory → SProp 𝓤) (runs : Routine → Fun 𝓤) where
@@ -209,9 +259,17 @@ module _ {M : Type 1} (𝓤 : URA M) (H : Heap 𝓤) (A : Atoms 𝓤) (W : Given
   report-record-walks C Λ fm known =
       walked 𝓤 H A f.ended stayed (f.clauses 𝓤 H A at-mem runs) (WpFn 𝓤 H C Λ code.function)
       (λ κs. (ptr-vals, (LL.vals Ce.the-type Ce′.the-laws, (LL.vals Re.the-type Re′.the-laws, (slice-vals, (uint-vals w8, tt))))))
-      (λ κs. (mut-tells (named 0) (κs .0) R.the-row, (LL.tells Ce.the-type Ce′.the-laws, (LL.tells Re.the-type Re′.the-laws, (shr-slice-tells (named 1) (κs .1 .0) u32, (uint-tells w8, tt))))))
+      (λ κs. (
+        mut-tells (named 0) (κs .0) R.the-row,
+        (
+          LL.tells Ce.the-type Ce′.the-laws,
+          (LL.tells Re.the-type Re′.the-laws, (shr-slice-tells (named 1) (κs .1 .0) u32, (uint-tells w8, tt))),
+        ),
+      ))
       (λ κs qs bounds a g are. via 𝓤 _ (fst∗ 𝓤 _ (emp 𝓤))
-      (walk 𝓤 H A W at-mem runs (κs .0) (κs .1 .0) (qs .0) (qs .1 .0) (a .0 .ptr .0) (a .0 .ptr .1) (a .0 .name) (a .0 .now) (a .1 .0) (a .1 .1 .0) (a .1 .1 .1 .0) (a .1 .1 .1 .1 .0) (are .1 .0) (are .1 .1 .0) (are .1 .1 .1 .0) (are .1 .1 .1 .1 .0 .1) C Λ fm known))
+      (walk 𝓤 H A W at-mem runs (κs .0) (κs .1 .0) (qs .0) (qs .1 .0) (a .0 .ptr .0) (a .0 .ptr .1) (a .0 .name)
+      (a .0 .now) (a .1 .0) (a .1 .1 .0) (a .1 .1 .1 .0) (a .1 .1 .1 .1 .0) (are .1 .0) (are .1 .1 .0)
+      (are .1 .1 .1 .0) (are .1 .1 .1 .1 .0 .1) C Λ fm known))
 
   goes : AllGo 𝓤 H A W 2 (f.signature .params) (f.ended .kept) stayed
   goes = (
@@ -228,10 +286,13 @@ module _ {M : Type 1} (𝓤 : URA M) (H : Heap 𝓤) (A : Atoms 𝓤) (W : Given
     ),
   )
 
-report-record-meets : {M : Type 1} (𝓤 : URA M) (H : Heap 𝓤) (A : Atoms 𝓤) → Given 𝓤 H A → (at-mem : Memory → SProp 𝓤) (runs : Routine → Fun 𝓤) (𝓣 : Tables 𝓤 H) → Triple 𝓤 (𝓣 .C #run·Run·report) (ByValue 𝓤 H A at-mem runs)
+report-record-meets : {M : Type 1} (𝓤 : URA M) (H : Heap 𝓤) (A : Atoms 𝓤) → Given 𝓤 H A
+    → (at-mem : Memory → SProp 𝓤) (runs : Routine → Fun 𝓤) (𝓣 : Tables 𝓤 H)
+    → Triple 𝓤 (𝓣 .C #run·Run·report) (ByValue 𝓤 H A at-mem runs)
     → Meets 𝓤 H A f.signature (WpFn 𝓤 H (𝓣 .C) (𝓣 .Λ) code.function) (f.spec 𝓤 H A at-mem runs)
 report-record-meets 𝓤 H A W at-mem runs 𝓣 known =
-    walk-meets 𝓤 H A f.ended stayed W (goes 𝓤 H A W at-mem runs) (f.clauses 𝓤 H A at-mem runs) (WpFn 𝓤 H (𝓣 .C) (𝓣 .Λ) code.function) (WpFn-mono 𝓤 H (W .laws) 𝓣 code.function)
+    walk-meets 𝓤 H A f.ended stayed W (goes 𝓤 H A W at-mem runs) (f.clauses 𝓤 H A at-mem runs)
+    (WpFn 𝓤 H (𝓣 .C) (𝓣 .Λ) code.function) (WpFn-mono 𝓤 H (W .laws) 𝓣 code.function)
     (report-record-walks 𝓤 H A W at-mem runs (𝓣 .C) (𝓣 .Λ) (fmOf 𝓤 H (W .laws) 𝓣) known)
 
 pub report-record-spec : {M : Type 1} → stated.statement M

@@ -6,7 +6,8 @@ use Rattle.walk.proofs.follow.Statement.{statement}
 use Rattle.walk.proofs.follow.Tie as tie
 
 abbrev Inv-loop : tie.InvT-loop
-Inv-loop cell recipe table reads bytes₀ text₀ step₀ left₀ bytes text step left = Following cell recipe table reads left step × (length bytes ≡ 1024) × (length text ≡ 65536)
+Inv-loop cell recipe table reads bytes₀ text₀ step₀ left₀ bytes text step left =
+    Following cell recipe table reads left step × (length bytes ≡ 1024) × (length text ≡ 65536)
 
 abbrev μ-loop : tie.MeasureT-loop
 μ-loop cell recipe table reads bytes₀ text₀ step₀ left₀ bytes text step left = left
@@ -41,8 +42,13 @@ loop-again : tie.Need-loop-again Inv-loop μ-loop
 loop-again c =
     let s = c .before .before .before .before .before .before .before .before .before .before .before .args in
     let l = c .before .before .before .before .before .before .before .loop in
-    let took = c .before .before .take-some in
-    (following-next (s .cell) (s .recipe) (s .table .now) (s .reads) (l .left) (omega arith) (l .step) (took .result) _ _ (l .inv .0) (c .before .before .before .before .before .if1 .taken) (took .ensures), took .kept .1 .1 .1 .1 .0 ∙ l .inv .1, took .kept .1 .1 .1 .1 .1 .0 ∙ l .inv .2)
+    let took = c .before .before .take-some in (
+      following-next (s .cell) (s .recipe) (s .table .now) (s .reads) (l .left) (omega arith) (l .step)
+          (took .result) _ _ (l .inv .0) (c .before .before .before .before .before .if1 .taken) (took .ensures),
+      took .kept .1 .1 .1 .1 .0
+          ∙ l .inv .1,
+      took .kept .1 .1 .1 .1 .1 .0 ∙ l .inv .2,
+    )
 
 returns : tie.Need-returns Inv-loop μ-loop
 returns c =

@@ -20,7 +20,12 @@ enum-told-2 : tie.Need-enum-told-2
 enum-told-2 c = search needs
 
 returns : tie.Need-returns
-returns c = prepared-refused _ (c .before .before .before .before .before .before .read-cell .result) (c .before .before .before .before .read-recipe .result) (c .before .before .before .before .before .before .read-cell .ensures) (c .before .before .before .before .read-recipe .ensures) _ (c .before .before .first-refusal .ensures) (c .enum-told2 .given .1)
+returns c =
+    prepared-refused _ (c .before .before .before .before .before .before .read-cell .result)
+    (c .before .before .before .before .read-recipe .result)
+    (c .before .before .before .before .before .before .read-cell .ensures)
+    (c .before .before .before .before .read-recipe .ensures) _ (c .before .before .first-refusal .ensures)
+    (c .enum-told2 .given .1)
 
 slice-aggregate-plan : tie.Need-slice-aggregate-plan
 slice-aggregate-plan c = search needs
@@ -32,7 +37,16 @@ same-length : tie.Need-same-length
 same-length c = search needs
 
 returns-2 : tie.Need-returns-2
-returns-2 c = prepared-planned _ (c .before .before .before .before .before .before .before .before .before .before .before .before .read-cell .result) (c .before .before .before .before .before .before .before .before .before .before .read-recipe .result) (c .before .before .before .before .before .before .before .before .before .before .before .before .read-cell .ensures) (c .before .before .before .before .before .before .before .before .before .before .read-recipe .ensures) _ _ _ _ _ (c .before .before .before .before .before .before .before .before .first-refusal .ensures) (c .before .before .before .before .before .before .enum-told .given .1) (c .before .before .before .before .before .before .before .before .before .before .before .before .before .before .pre) refl (c .before .before .before .plan .ensures)
+returns-2 c =
+    prepared-planned _
+    (c .before .before .before .before .before .before .before .before .before .before .before .before .read-cell .result)
+    (c .before .before .before .before .before .before .before .before .before .before .read-recipe .result)
+    (c .before .before .before .before .before .before .before .before .before .before .before .before .read-cell .ensures)
+    (c .before .before .before .before .before .before .before .before .before .before .read-recipe .ensures) _ _ _ _ _
+    (c .before .before .before .before .before .before .before .before .first-refusal .ensures)
+    (c .before .before .before .before .before .before .enum-told .given .1)
+    (c .before .before .before .before .before .before .before .before .before .before .before .before .before .before .pre)
+    refl (c .before .before .before .plan .ensures)
 
 pub prepare-spec : {M : Type 1} → statement M
 prepare-spec =

@@ -32,7 +32,10 @@ print-requires : tie.Need-print-requires
 print-requires c κs = search needs
 
 returns-2 : tie.Need-returns-2
-returns-2 c = line-handed (c .before .before .before .before .before .before .before .verdict .given .1) (c .before .before .before .before .number .ensures) (c .before .before .before .put-refusal .ensures) (c .print .ensures)
+returns-2 c =
+    line-handed (c .before .before .before .before .before .before .before .verdict .given .1)
+    (c .before .before .before .before .number .ensures) (c .before .before .before .put-refusal .ensures)
+    (c .print .ensures)
 
 pub print-refusal-spec : {M : Type 1} → statement M
 print-refusal-spec =

@@ -17,7 +17,9 @@ same-length c = search needs
 returns : tie.Need-returns
 returns c =
     let s = c .before .before .before .before .before .before .before .before .before .before .args in
-    step-ended (s .cell) (s .recipe) (s .table .now) (s .run) (c .before .before .before .before .before .read .last .1 .0) (s .text .now) (c .before .count .result) (c .if1 .taken)
+    step-ended (s .cell) (s .recipe) (s .table .now) (s .run)
+    (c .before .before .before .before .before .read .last .1 .0) (s .text .now) (c .before .count .result)
+    (c .if1 .taken)
 
 slice-reshare-prefix-answers : tie.Need-slice-reshare-prefix-answers
 slice-reshare-prefix-answers c = search needs
@@ -47,11 +49,15 @@ same-length-3 c = search needs
 
 returns-2 : tie.Need-returns-2
 returns-2 c =
-    let s = c .before .before .before .before .before .before .before .before .before .before .before .before .before .before .before .before .before .before .before .args in
+    let s =
+    c .before .before .before .before .before .before .before .before .before .before .before .before .before .before .before .before .before .before .before .args in
     let count = c .before .before .before .before .before .before .before .before .before .before .count in
     let answers = c .before .before .before .before .before .before .answers in
     let whole = c .before .print .ensures ∙ length-take-le (answers .result .length) (answers .last .1 .1 .1 .1 .1 .0) (answers .ensures .inside) in
-    step-failed (s .cell) (s .recipe) (s .table .now) (s .run) (c .before .before .before .before .before .before .before .before .before .before .before .before .before .before .read .last .1 .0) (answers .last .1 .1 .1 .1 .1 .0) (count .result) (count .ensures .0 .0) (answers .result) (answers .ensures) (c .before .print .result .length) whole
+    step-failed (s .cell) (s .recipe) (s .table .now) (s .run)
+    (c .before .before .before .before .before .before .before .before .before .before .before .before .before .before .read .last .1 .0)
+    (answers .last .1 .1 .1 .1 .1 .0) (count .result) (count .ensures .0 .0) (answers .result) (answers .ensures)
+    (c .before .print .result .length) whole
 
 same-length-4 : tie.Need-same-length-4
 same-length-4 c = search needs
@@ -61,11 +67,17 @@ same-length-5 c = search needs
 
 returns-3 : tie.Need-returns-3
 returns-3 c =
-    let s = c .before .before .before .before .before .before .before .before .before .before .before .before .before .before .before .before .before .before .before .args in
+    let s =
+    c .before .before .before .before .before .before .before .before .before .before .before .before .before .before .before .before .before .before .before .args in
     let count = c .before .before .before .before .before .before .before .before .before .before .count in
     let answers = c .before .before .before .before .before .before .answers in
     let whole = c .before .print .ensures ∙ length-take-le (answers .result .length) (answers .last .1 .1 .1 .1 .1 .0) (answers .ensures .inside) in
-    let step = step-written (s .cell) (s .recipe) (s .table .now) (s .run) (c .before .before .before .before .before .before .before .before .before .before .before .before .before .before .read .last .1 .0) (answers .last .1 .1 .1 .1 .1 .0) (count .result) (count .ensures .0 .0) (answers .result) (answers .ensures) (c .before .print .result .length) whole (c .before .before .before .before .before .before .before .before .before .if1 .left) in
+    let step =
+    step-written (s .cell) (s .recipe) (s .table .now) (s .run)
+    (c .before .before .before .before .before .before .before .before .before .before .before .before .before .before .read .last .1 .0)
+    (answers .last .1 .1 .1 .1 .1 .0) (count .result) (count .ensures .0 .0) (answers .result) (answers .ensures)
+    (c .before .print .result .length) whole
+    (c .before .before .before .before .before .before .before .before .before .if1 .left) in
     record {
       bytes-inside = step .bytes-inside;
       text-inside = step .text-inside;

@@ -36,7 +36,15 @@ returns-2 c =
     let at-count-from = c .before .before .before .before .before in
     let at-if1 = at-count-from .before .before in
     let start = at-if1 .before .before in
-    rw (at-count-from .count-from .ensures, c .before .before .before .before .column .ensures, c .before .before .before .column2 .ensures, c .before .before .column3 .ensures, c .before .column4 .ensures, c .column5 .ensures, le-ltb (length (start .args .bytes .now)) 321 (at-if1 .if1 .left))
+    rw (
+      at-count-from .count-from .ensures,
+      c .before .before .before .before .column .ensures,
+      c .before .before .before .column2 .ensures,
+      c .before .before .column3 .ensures,
+      c .before .column4 .ensures,
+      c .column5 .ensures,
+      le-ltb (length (start .args .bytes .now)) 321 (at-if1 .if1 .left),
+    )
 
 pub get-cell-spec : {M : Type 1} → statement M
 get-cell-spec =

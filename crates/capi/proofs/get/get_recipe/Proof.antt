@@ -44,7 +44,17 @@ returns-2 c =
     let at-count-from = at-column .before in
     let at-if1 = at-count-from .before .before in
     let start = at-if1 .before .before in
-    rw (at-count-from .count-from .ensures, at-column .column .ensures, at-column2 .column2 .ensures, c .before .before .before .before .column3 .ensures, c .before .before .before .column4 .ensures, c .before .before .column5 .ensures, c .before .column6 .ensures, c .column7 .ensures, le-ltb (length (start .args .bytes .now)) 449 (at-if1 .if1 .left))
+    rw (
+      at-count-from .count-from .ensures,
+      at-column .column .ensures,
+      at-column2 .column2 .ensures,
+      c .before .before .before .before .column3 .ensures,
+      c .before .before .before .column4 .ensures,
+      c .before .before .column5 .ensures,
+      c .before .column6 .ensures,
+      c .column7 .ensures,
+      le-ltb (length (start .args .bytes .now)) 449 (at-if1 .if1 .left),
+    )
 
 pub get-recipe-spec : {M : Type 1} → statement M
 get-recipe-spec =

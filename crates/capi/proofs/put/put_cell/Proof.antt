@@ -4,12 +4,15 @@ use mathlib.Core.Path.{refl, _∙_}
 use native.Mathlib.Omega.{arith}
 use lib.ListN.{length, length-set}
 use Rattle.capi.specs.Encoding.{cellRow, cellBytes}
-use Rattle.capi.proofs.ByteRows.{Put, put-none, put-more, put-all}
+use Rattle.capi.proofs.ByteRows.{RowsPut, put-none, put-more, put-all}
 use Rattle.capi.proofs.put.put_cell.Statement.{statement}
 use Rattle.capi.proofs.put.put_cell.Tie as tie
 
 abbrev Inv-loop : tie.InvT-loop
-Inv-loop buffer₀ count resource from act arg to at₀ i₀ buffer at i = (i ≤ 64) × (321 ≤ length buffer₀) × Put (cellRow (record { count = count; resource = resource; from = from; act = act; arg = arg; to = to })) 5 count buffer₀ i at buffer
+Inv-loop buffer₀ count resource from act arg to at₀ i₀ buffer at i =
+    (i ≤ 64)
+    × (321 ≤ length buffer₀)
+    × RowsPut (cellRow (record { count = count; resource = resource; from = from; act = act; arg = arg; to = to })) 5 count buffer₀ i at buffer
 
 abbrev μ-loop : tie.MeasureT-loop
 μ-loop buffer₀ count resource from act arg to at₀ i₀ buffer at i = 64 - i

@@ -3,12 +3,17 @@ use mathlib.Core.Path.{refl, _∙_}
 use native.Mathlib.Omega.{arith}
 use lib.ListN.{length, set, length-set}
 use Rattle.capi.specs.Encoding.{recipeRow, recipeBytes}
-use Rattle.capi.proofs.ByteRows.{Put, put-none, put-more, put-all}
+use Rattle.capi.proofs.ByteRows.{RowsPut, put-none, put-more, put-all}
 use Rattle.capi.proofs.put.put_recipe.Statement.{statement}
 use Rattle.capi.proofs.put.put_recipe.Tie as tie
 
 abbrev Inv-loop : tie.InvT-loop
-Inv-loop buffer₀ count point kind op takes gives then otherwise at₀ i₀ buffer at i = (i ≤ 64) × (449 ≤ length buffer₀) × Put (recipeRow (record { count = count; point = point; kind = kind; op = op; takes = takes; gives = gives; then = then; otherwise = otherwise })) 7 count buffer₀ i at buffer
+Inv-loop buffer₀ count point kind op takes gives then otherwise at₀ i₀ buffer at i =
+    (i ≤ 64)
+    × (449 ≤ length buffer₀)
+    × RowsPut
+    (recipeRow (record { count = count; point = point; kind = kind; op = op; takes = takes; gives = gives; then = then; otherwise = otherwise }))
+    7 count buffer₀ i at buffer
 
 abbrev μ-loop : tie.MeasureT-loop
 μ-loop buffer₀ count point kind op takes gives then otherwise at₀ i₀ buffer at i = 64 - i

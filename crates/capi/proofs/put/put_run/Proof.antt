@@ -51,7 +51,9 @@ returns c =
     let six : length state ≡ 6 = sym (slice-aggregate-put-2 (at-put2 .before)) in
     let eight : length place ≡ 8 = sym (slice-aggregate-put-3 (at-put3 .before)) in
     rw (tabulate-is (λ k. getD state k 0) state 6 six (λ k low. refl), tabulate-is (λ n. getD place n 0) place 8 eight (λ n low. refl))
-    (put-three (start .args .buffer .now) _ _ _ (start .args .run .point ∷ []) state place 1 7 15 (at-put .put .ensures) (at-put2 .put2 .ensures) (at-put3 .put3 .ensures) refl (omega (arith, six)) (omega (arith, eight)) (start .pre))
+    (put-three (start .args .buffer .now) _ _ _ (start .args .run .point ∷ []) state place 1 7 15
+    (at-put .put .ensures) (at-put2 .put2 .ensures) (at-put3 .put3 .ensures) refl (omega (arith, six))
+    (omega (arith, eight)) (start .pre))
 
 pub put-run-spec : {M : Type 1} → statement M
 put-run-spec =

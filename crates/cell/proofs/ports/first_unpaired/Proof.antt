@@ -56,8 +56,14 @@ loop-holds c =
     let line = c .before .before .before .before .before .before .before .before in
     let a = line .before .before .args in
     let other = c .before .before .before .other-act .ensures in
-    let from : c .wide .result ≡ getD (line .before .first-lines .result) (place (otherAct (getD (a .act .now) (line .lines .i) 0)) (getD (a .arg .now) (line .lines .i) 0)) 0 = c .wide .ensures ∙ rw (c .before .place-of .ensures, other) in
-    (refl, rw from (passed-start (a .resource .now) (a .act .now) (a .arg .now) (a .count) (line .lines .i) (line .before .first-lines .result) (line .before .first-lines .ensures)))
+    let from : c .wide .result ≡ getD (line .before .first-lines .result)
+    (place (otherAct (getD (a .act .now) (line .lines .i) 0)) (getD (a .arg .now) (line .lines .i) 0)) 0 =
+    c .wide .ensures ∙ rw (c .before .place-of .ensures, other) in (
+      refl,
+      rw from
+          (passed-start (a .resource .now) (a .act .now) (a .arg .now) (a .count) (line .lines .i)
+          (line .before .first-lines .result) (line .before .first-lines .ensures)),
+    )
 
 pairs-requires : tie.Need-pairs-requires Inv-loop μ-loop Inv-lines μ-lines
 pairs-requires c κs = omega arith
@@ -98,7 +104,10 @@ returns c =
     let at-lines-test = c .before .before .before .before .before .before .before .before .before in
     let line = c .before .before .before .before .before .before .before .before .before .before in
     c .before .loop .inv .0
-    ∙ sym (first-hit _ _ _ (at-lines-test .lines-test .taken) (line .lines .inv .1) (alone _ _ _ _ _ (omega arith) (omega arith) (passed-end _ _ _ _ _ _ (c .loop-test .left) (c .before .loop .inv .1))))
+    ∙ sym
+    (first-hit _ _ _ (at-lines-test .lines-test .taken) (line .lines .inv .1)
+    (alone _ _ _ _ _ (omega arith) (omega arith)
+    (passed-end _ _ _ _ _ _ (c .loop-test .left) (c .before .loop .inv .1))))
 
 add-i-2 : tie.Need-add-i-2 Inv-loop μ-loop Inv-lines μ-lines
 add-i-2 c = omega arith

@@ -6,7 +6,7 @@ use native.Mathlib.Omega.{arith}
 use borrow.Author.Needs.{needs}
 use Rattle.refusals.specs.Search.{firstBelow}
 use Rattle.refusals.proofs.Scan.{first-more, first-hit}
-use Rattle.cell.specs.Rules.{leavesRange}
+use Rattle.cell.specs.Rules.{inRange, leavesRange}
 use Rattle.cell.proofs.range.first_out_of_range.Statement.{statement}
 use Rattle.cell.proofs.range.first_out_of_range.Tie as tie
 
@@ -39,8 +39,12 @@ in-range-requires : tie.Need-in-range-requires Inv-loop μ-loop
 in-range-requires c κs = search needs
 
 returns : tie.Need-returns Inv-loop μ-loop
-unfolding leavesRange
-returns c = sym (first-hit _ _ _ (c .before .before .before .before .before .before .before .loop-test .taken) (c .before .before .before .before .before .before .before .before .loop .inv .1) (ap not (sym (c .before .in-range .ensures)) ∙ c .if1 .taken))
+unfolding leavesRange inRange
+returns c =
+    sym
+    (first-hit _ _ _ (c .before .before .before .before .before .before .before .loop-test .taken)
+    (c .before .before .before .before .before .before .before .before .loop .inv .1)
+    (ap not (sym (c .before .in-range .ensures)) ∙ c .if1 .taken))
 
 add-i : tie.Need-add-i Inv-loop μ-loop
 add-i c = omega arith
@@ -49,8 +53,12 @@ loop-less : tie.Need-loop-less Inv-loop μ-loop
 loop-less c = omega arith
 
 loop-again : tie.Need-loop-again Inv-loop μ-loop
-unfolding leavesRange
-loop-again c = (omega arith, first-more _ _ (c .before .before .before .before .before .before .before .before .loop .inv .1) (ap not (sym (c .before .in-range .ensures)) ∙ c .if1 .left))
+unfolding leavesRange inRange
+loop-again c = (
+  omega arith,
+  first-more _ _ (c .before .before .before .before .before .before .before .before .loop .inv .1)
+      (ap not (sym (c .before .in-range .ensures)) ∙ c .if1 .left),
+)
 
 returns-2 : tie.Need-returns-2 Inv-loop μ-loop
 returns-2 c = let e : c .before .loop .i ≡ c .before .before .args .count = omega arith in sym (rw e at (c .before .loop .inv .1))

@@ -1,9 +1,10 @@
 use mathlib.Core.Path.{_≡_, sym, _∙_}
 use Rattle.refusals.specs.declared.Verdict.the-variants.{Accepted}
-use Rattle.refusals.specs.Verdict.{firstRefusal, rule3}
+use Rattle.refusals.specs.Verdict.{firstRefusal, rule3, ifAccepted}
 use Rattle.refusals.proofs.Verdicts.{count-in-range}
 use Rattle.cell.specs.Rules.{cellRules, checkCell}
-use Rattle.cell.specs.Reader.{cellOf, reading}
+use Rattle.cell.specs.Reader.{cellOf}
+use Rattle.cell.specs.Steps.{reading, afterRange}
 use borrow.Author.Needs.{needs}
 use Rattle.cell.proofs.reader.read_lines.Statement.{statement}
 use Rattle.cell.proofs.reader.read_lines.Tie as tie
@@ -15,7 +16,9 @@ enum-told : tie.Need-enum-told
 enum-told c = search needs
 
 store-lines-requires : tie.Need-store-lines-requires
-store-lines-requires c κs = let n = c .before .before .before .before .args .count in let e : rule3 n ≡ Accepted = sym (c .before .before .check-count .ensures) ∙ c .enum-told .given .1 in (c .before .before .before .before .pre, count-in-range n e .most)
+store-lines-requires c κs = let n = c .before .before .before .before .args .count in
+    let e : rule3 n ≡ Accepted = sym (c .before .before .check-count .ensures) ∙ c .enum-told .given .1 in
+    (c .before .before .before .before .pre, count-in-range n e .most)
 
 enum-known-refusal : tie.Need-enum-known-refusal
 enum-known-refusal c = search needs
@@ -24,12 +27,16 @@ refused-requires : tie.Need-refused-requires
 refused-requires c κs = search needs
 
 returns : tie.Need-returns
-unfolding firstRefusal checkCell cellRules cellOf
-returns c = λ f all kept. c .store-lines .ensures f all kept ∙ rw (← all, sym (c .before .before .before .check-count .ensures) ∙ c .before .enum-told .given .1)
+unfolding firstRefusal checkCell cellRules afterRange cellOf
+returns c =
+    λ f all kept. c .store-lines .ensures f all kept
+    ∙ rw (← all, sym (c .before .before .before .check-count .ensures) ∙ c .before .enum-told .given .1)
 
 returns-2 : tie.Need-returns-2
-unfolding firstRefusal checkCell cellRules cellOf reading
-returns-2 c = λ f all kept. c .refused .ensures ∙ rw (← all, sym (c .before .before .before .before .check-count .ensures) ∙ c .before .before .refusal .given .1)
+unfolding firstRefusal checkCell cellRules afterRange cellOf reading ifAccepted
+returns-2 c =
+    λ f all kept. c .refused .ensures
+    ∙ rw (← all, sym (c .before .before .before .before .check-count .ensures) ∙ c .before .before .refusal .given .1)
 
 pub read-lines-spec : {M : Type 1} → statement M
 read-lines-spec =

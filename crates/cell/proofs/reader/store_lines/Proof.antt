@@ -2,8 +2,8 @@ use mathlib.Core.Path.{ap, _∙_}
 use Rattle.refusals.specs.declared.Verdict.{Verdict}
 use Rattle.refusals.specs.Verdict.{firstRefusal}
 use Rattle.cell.specs.declared.Cell.{Cell}
-use Rattle.cell.specs.Rules.{afterRange}
-use Rattle.cell.specs.Reader.{cellOf, reading}
+use Rattle.cell.specs.Reader.{cellOf}
+use Rattle.cell.specs.Steps.{reading, afterRange}
 use Rattle.cell.proofs.RecordFields.{stored-out, stored-cell, stored-fine}
 use borrow.Author.Needs.{needs}
 use Rattle.cell.proofs.reader.store_lines.Statement.{statement}
@@ -38,7 +38,10 @@ returns c =
     let c3 = c .before .before .before .before .before .column4 in
     let c4 = c .before .before .before .before .column5 in
     let start = c .before .before .before .before .before .before .before .before .before .before in
-    λ f all K. c .refused .ensures ∙ stored-out f (start .args .numbers .now) (start .args .count) all (start .pre .1) K (c0 .result) (c1 .result) (c2 .result) (c3 .result) (c4 .result) (c0 .ensures) (c1 .ensures) (c2 .ensures) (c3 .ensures) (c4 .ensures) (afterRange (cellOf f)) (c .before .before .if1 .taken)
+    λ f all K. c .refused .ensures
+    ∙ stored-out f (start .args .numbers .now) (start .args .count) all (start .pre .1) K (c0 .result) (c1 .result)
+    (c2 .result) (c3 .result) (c4 .result) (c0 .ensures) (c1 .ensures) (c2 .ensures) (c3 .ensures) (c4 .ensures)
+    (afterRange (cellOf f)) (c .before .before .if1 .taken)
 
 judged-requires : tie.Need-judged-requires
 judged-requires c κs = search needs
@@ -54,8 +57,15 @@ returns-2 c =
     let start = c .before .before .before .before .before .before .before .before .before .before .before .before .before .before in
     λ f all K.
     let high = left .if1 .left in
-    c .judged .ensures ∙ ap (λ (r : Cell). reading (firstRefusal (afterRange r)) r) (stored-cell f (start .args .numbers .now) (start .args .count) all (start .pre .1) K (c0 .result) (c1 .result) (c2 .result) (c3 .result) (c4 .result) (c0 .ensures) (c1 .ensures) (c2 .ensures) (c3 .ensures) (c4 .ensures) high)
-    ∙ ap (λ (v : Verdict). reading v (cellOf f)) (stored-fine f (start .args .numbers .now) (start .args .count) all (start .pre .1) K (c0 .result) (c1 .result) (c2 .result) (c3 .result) (c4 .result) (c0 .ensures) (c1 .ensures) (c2 .ensures) (c3 .ensures) (c4 .ensures) high (afterRange (cellOf f)))
+    c .judged .ensures
+    ∙ ap (λ (r : Cell). reading (firstRefusal (afterRange r)) r)
+    (stored-cell f (start .args .numbers .now) (start .args .count) all (start .pre .1) K (c0 .result) (c1 .result)
+    (c2 .result) (c3 .result) (c4 .result) (c0 .ensures) (c1 .ensures) (c2 .ensures) (c3 .ensures) (c4 .ensures)
+    high)
+    ∙ ap (λ (v : Verdict). reading v (cellOf f))
+    (stored-fine f (start .args .numbers .now) (start .args .count) all (start .pre .1) K (c0 .result) (c1 .result)
+    (c2 .result) (c3 .result) (c4 .result) (c0 .ensures) (c1 .ensures) (c2 .ensures) (c3 .ensures) (c4 .ensures)
+    high (afterRange (cellOf f)))
 
 pub store-lines-spec : {M : Type 1} → statement M
 store-lines-spec =

@@ -28,7 +28,10 @@ has-line-requires c κs = search needs
 
 returns : tie.Need-returns Inv-loop μ-loop
 unfolding gap hasNoLine
-returns c = rw (← c .before .before .before .before .greatest .ensures) (sym (any-hit _ _ _ (c .before .before .loop-test .taken) (ap not (sym (c .before .has-line .ensures)) ∙ c .if1 .taken)))
+returns c =
+    rw (← c .before .before .before .before .greatest .ensures)
+    (sym
+    (any-hit _ _ _ (c .before .before .loop-test .taken) (ap not (sym (c .before .has-line .ensures)) ∙ c .if1 .taken)))
 
 add-k : tie.Need-add-k Inv-loop μ-loop
 add-k c = omega (arith, c .before .before .before .before .greatest .ok)
@@ -42,7 +45,8 @@ loop-again c = (omega arith, any-more _ _ (c .before .before .before .loop .inv 
 
 returns-2 : tie.Need-returns-2 Inv-loop μ-loop
 unfolding gap
-returns-2 c = let e : c .before .loop .k ≡ c .before .before .greatest .result = omega arith in rw (← c .before .before .greatest .ensures) (sym (rw e at (c .before .loop .inv .1)))
+returns-2 c = let e : c .before .loop .k ≡ c .before .before .greatest .result = omega arith in
+    rw (← c .before .before .greatest .ensures) (sym (rw e at (c .before .loop .inv .1)))
 
 pub has-gap-spec : {M : Type 1} → statement M
 has-gap-spec =

@@ -4,9 +4,8 @@ use mathlib.Core.Bool.{false}
 use Prim.Native.Nat.{_≤_, _-_}
 use native.Mathlib.Omega.{arith}
 use borrow.Author.Tests.{eq-eqb, ne-eqb}
-use Rattle.refusals.specs.Search.{anyBelow}
+use Rattle.refusals.specs.Search.{anyBelow, isOf}
 use Rattle.refusals.proofs.Scan.{any-more, any-hit}
-use Rattle.cell.specs.Rules.{isOf}
 use Rattle.cell.proofs.resources.has_line.Statement.{statement}
 use Rattle.cell.proofs.resources.has_line.Tie as tie
 

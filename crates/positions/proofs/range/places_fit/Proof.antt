@@ -19,7 +19,9 @@ Inv-loop place parts resources n₀ n = (n ≤ 8) × (allBelow (λ i. ltb (getD 
 abbrev μ-loop : tie.MeasureT-loop
 μ-loop place parts resources n₀ n = 8 - n
 
-places : (c : tie.Joined1 Inv-loop μ-loop) → c .if1 .places ≡ cond (ltb (c .before .before .loop .n) (c .before .before .before .args .sizes .parts)) (c .before .before .before .args .sizes .resources + 1) 1
+places : (c : tie.Joined1 Inv-loop μ-loop)
+    → c .if1 .places ≡ cond (ltb (c .before .before .loop .n) (c .before .before .before .args .sizes .parts))
+    (c .before .before .before .args .sizes .resources + 1) 1
 places c = ⊎-elim (λ w. rw (lt-ltb _ _ (w .0 .taken)) (w .1)) (λ w. rw (le-ltb _ _ (w .0 .left)) (w .1)) (c .if1 .came)
 
 loop-holds : tie.Need-loop-holds Inv-loop μ-loop
@@ -46,7 +48,11 @@ loop-less : tie.Need-loop-less Inv-loop μ-loop
 loop-less c = omega arith
 
 loop-again : tie.Need-loop-again Inv-loop μ-loop
-loop-again c = (omega arith, all-more _ _ (c .before .before .before .before .loop .inv .1) (sym (ap (ltb _) (places (c .before .before))) ∙ sym (c .before .below .ensures) ∙ not-false _ (c .if2 .left)))
+loop-again c = (
+  omega arith,
+  all-more _ _ (c .before .before .before .before .loop .inv .1)
+      (sym (ap (ltb _) (places (c .before .before))) ∙ sym (c .before .below .ensures) ∙ not-false _ (c .if2 .left)),
+)
 
 returns-2 : tie.Need-returns-2 Inv-loop μ-loop
 unfolding placeFits placeCount

@@ -57,7 +57,8 @@ put-digits-put-byte-requires : (t : ℕ) → put-digits-lts.Need-put-byte-requir
   put-digits-below t,
   put-digits.Post,
 ) (put-digits-at t) put-digits.Post
-put-digits-put-byte-requires t c κs = let start = c .before .before .before .before .before in omega (arith, start .pre .1, c .before .before .before .if1 .left)
+put-digits-put-byte-requires t c κs = let start = c .before .before .before .before .before in
+    omega (arith, start .pre .1, c .before .before .before .if1 .left)
 
 put-digits-same-length : (t : ℕ) → put-digits-lts.Need-same-length (
   last-digit-reads.Asked,
@@ -81,7 +82,9 @@ put-digits-returns-2 t c =
     let at-last-digit = c .before .before .before in
     let s = at-last-digit .before .before .before .before .before .args in
     put-same
-    (ap (λ (d : ℕ). d ∷ []) (at-last-digit .last-digit .ensures) ∙ digits-one (s .most) (s .n) (at-last-digit .before .before .before .if1 .left) (at-last-digit .before .before .if2 .taken))
+    (ap (λ (d : ℕ). d ∷ []) (at-last-digit .last-digit .ensures)
+    ∙ digits-one (s .most) (s .n) (at-last-digit .before .before .before .if1 .left)
+    (at-last-digit .before .before .if2 .taken))
     (c .before .before .put-byte .ensures)
 
 put-digits-sub-put-digits : (t : ℕ) → put-digits-lts.Need-sub-put-digits (

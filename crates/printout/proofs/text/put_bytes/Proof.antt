@@ -10,7 +10,9 @@ use Rattle.printout.proofs.text.put_bytes.Statement.{statement}
 use Rattle.printout.proofs.text.put_bytes.Tie as tie
 
 abbrev Inv-loop : tie.InvT-loop
-Inv-loop text₀ at bytes end₀ i₀ text end i = (i ≤ length bytes) × (at + length bytes ≤ length text₀) × (length text ≡ length text₀) × Put text₀ text at (take i bytes) end
+Inv-loop text₀ at bytes end₀ i₀ text end i =
+    (i ≤ length bytes) × (at + length bytes ≤ length text₀) × (length text ≡ length text₀)
+    × Put text₀ text at (take i bytes) end
 
 abbrev μ-loop : tie.MeasureT-loop
 μ-loop text₀ at bytes end₀ i₀ text end i = length bytes - i

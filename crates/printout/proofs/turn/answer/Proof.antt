@@ -14,7 +14,8 @@ returns c =
 returns-2 : tie.Need-returns-2
 returns-2 c =
     let s = c .before .before .before .before .args in
-    byte-above (s .cell) (s .recipe) (s .table .now) (s .run) (s .byte) (s .text .now) (s .at) (omega (arith, c .before .before .before .before .pre)) (c .before .if1 .left) (c .if2 .taken)
+    byte-above (s .cell) (s .recipe) (s .table .now) (s .run) (s .byte) (s .text .now) (s .at)
+    (omega (arith, c .before .before .before .before .pre)) (c .before .if1 .left) (c .if2 .taken)
 
 report-requires : tie.Need-report-requires
 report-requires c κs = search needs

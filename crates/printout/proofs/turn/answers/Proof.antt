@@ -10,15 +10,23 @@ use Rattle.printout.proofs.turn.answers.Statement.{statement}
 use Rattle.printout.proofs.turn.answers.Tie as tie
 
 abbrev Inv-loop : tie.InvT-loop
-Inv-loop cell recipe table bytes text₀ all₀ i₀ text all i = (i ≤ length bytes) × (64 * length bytes ≤ length text₀) × (length text ≡ length text₀) × (all .length ≤ 64 * i) × (all .more ≡ true) × Answers cell recipe table (all₀ .run) (take i bytes) text all
+Inv-loop cell recipe table bytes text₀ all₀ i₀ text all i =
+    (i ≤ length bytes) × (64 * length bytes ≤ length text₀) × (length text ≡ length text₀) × (all .length ≤ 64 * i)
+    × (all .more ≡ true) × Answers cell recipe table (all₀ .run) (take i bytes) text all
 
 abbrev μ-loop : tie.MeasureT-loop
 μ-loop cell recipe table bytes text₀ all₀ i₀ text all i = length bytes - i
 
 loop-holds : tie.Need-loop-holds Inv-loop μ-loop
 loop-holds c =
-    let s = c .before .before .before .args in
-    (omega arith, c .before .before .before .pre, refl, omega arith, refl, answers-none (s .cell) (s .recipe) (s .table .now) (s .run) (s .bytes .now) (s .text .now))
+    let s = c .before .before .before .args in (
+      omega arith,
+      c .before .before .before .pre,
+      refl,
+      omega arith,
+      refl,
+      answers-none (s .cell) (s .recipe) (s .table .now) (s .run) (s .bytes .now) (s .text .now),
+    )
 
 shared-slice-read-answer : tie.Need-shared-slice-read-answer Inv-loop μ-loop
 shared-slice-read-answer c = omega arith
@@ -29,13 +37,17 @@ answer-requires c κs =
     omega (arith, l .inv .1, l .inv .2, l .inv .3)
 
 same-length : tie.Need-same-length Inv-loop μ-loop
-same-length c = c .before .before .before .before .answer .kept .1 .1 .1 .1 .1 .0 ∙ c .before .before .before .before .before .before .before .before .loop .inv .2
+same-length c =
+    c .before .before .before .before .answer .kept .1 .1 .1 .1 .1 .0
+    ∙ c .before .before .before .before .before .before .before .before .loop .inv .2
 
 returns : tie.Need-returns Inv-loop μ-loop
 returns c =
     let l = c .before .before .before .before .before .before .before .before .loop in
     let s = c .before .before .before .before .before .before .before .before .before .before .before .before .args in
-    answers-ended (s .cell) (s .recipe) (s .table .now) (s .run) (s .bytes .now) (l .text) _ (l .i) (omega arith) (l .all) (c .before .before .before .before .answer .result) (l .inv .5) (l .inv .4) (c .before .before .before .before .answer .ensures) (not-true _ (c .if1 .taken))
+    answers-ended (s .cell) (s .recipe) (s .table .now) (s .run) (s .bytes .now) (l .text) _ (l .i) (omega arith)
+    (l .all) (c .before .before .before .before .answer .result) (l .inv .5) (l .inv .4)
+    (c .before .before .before .before .answer .ensures) (not-true _ (c .if1 .taken))
 
 add-i : tie.Need-add-i Inv-loop μ-loop
 add-i c = record { fits = omega arith }
@@ -47,13 +59,18 @@ loop-again : tie.Need-loop-again Inv-loop μ-loop
 loop-again c =
     let l = c .before .before .before .before .before .before .before .before .loop in
     let s = c .before .before .before .before .before .before .before .before .before .before .before .before .args in
-    let few = answers-few (s .cell) (s .recipe) (s .table .now) (s .run) (s .bytes .now) (l .text) _ (l .i) (omega arith) (l .all) (c .before .before .before .before .answer .result) (l .inv .5) (l .inv .4) (c .before .before .before .before .answer .ensures) in (
+    let few =
+    answers-few (s .cell) (s .recipe) (s .table .now) (s .run) (s .bytes .now) (l .text) _ (l .i) (omega arith)
+    (l .all) (c .before .before .before .before .answer .result) (l .inv .5) (l .inv .4)
+    (c .before .before .before .before .answer .ensures) in (
       omega arith,
       l .inv .1,
       c .before .before .before .before .answer .kept .1 .1 .1 .1 .1 .0 ∙ l .inv .2,
       omega (arith, few, l .inv .3),
       not-false _ (c .if1 .left),
-      answers-next (s .cell) (s .recipe) (s .table .now) (s .run) (s .bytes .now) (l .text) _ (l .i) (omega arith) (l .all) (c .before .before .before .before .answer .result) (l .inv .5) (l .inv .4) (c .before .before .before .before .answer .ensures),
+      answers-next (s .cell) (s .recipe) (s .table .now) (s .run) (s .bytes .now) (l .text) _ (l .i) (omega arith)
+          (l .all) (c .before .before .before .before .answer .result) (l .inv .5) (l .inv .4)
+          (c .before .before .before .before .answer .ensures),
     )
 
 same-length-2 : tie.Need-same-length-2 Inv-loop μ-loop

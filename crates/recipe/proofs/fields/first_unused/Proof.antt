@@ -3,12 +3,16 @@ use Prim.Native.Nat.{_≤_, _-_}
 use native.Mathlib.Omega.{arith}
 use Rattle.refusals.specs.Search.{firstBelow}
 use Rattle.refusals.proofs.Scan.{first-more, first-hit, first-end}
-use Rattle.recipe.specs.Rules.{breaksUnused}
+use Rattle.recipe.specs.Rules.{hasUnused, breaksUnused}
 use Rattle.recipe.proofs.fields.first_unused.Statement.{statement}
 use Rattle.recipe.proofs.fields.first_unused.Tie as tie
 
 abbrev Inv-loop : tie.InvT-loop
-Inv-loop recipe i₀ i = (i ≤ recipe .count) × (firstBelow (breaksUnused (recipe .kind) (recipe .op) (recipe .takes) (recipe .gives) (recipe .then) (recipe .otherwise)) i ≡ i)
+Inv-loop recipe i₀ i =
+    (i ≤ recipe .count)
+    ×
+    (firstBelow
+    (breaksUnused (recipe .kind) (recipe .op) (recipe .takes) (recipe .gives) (recipe .then) (recipe .otherwise)) i ≡ i)
 
 abbrev μ-loop : tie.MeasureT-loop
 μ-loop recipe i₀ i = recipe .count - i
@@ -39,7 +43,7 @@ has-unused-requires : tie.Need-has-unused-requires Inv-loop μ-loop
 has-unused-requires c κs = tt
 
 returns : tie.Need-returns Inv-loop μ-loop
-unfolding breaksUnused
+unfolding breaksUnused hasUnused
 returns c =
     let turn = c .before .before .before .before .before .before .before .before in
     sym (first-hit _ _ _ (turn .loop-test .taken) (turn .before .loop .inv .1) (sym (c .before .has-unused .ensures) ∙ c .if1 .taken))
@@ -51,7 +55,7 @@ loop-less : tie.Need-loop-less Inv-loop μ-loop
 loop-less c = omega arith
 
 loop-again : tie.Need-loop-again Inv-loop μ-loop
-unfolding breaksUnused
+unfolding breaksUnused hasUnused
 loop-again c =
     let turn = c .before .before .before .before .before .before .before .before in
     (omega arith, first-more _ _ (turn .before .loop .inv .1) (sym (c .before .has-unused .ensures) ∙ c .if1 .left))

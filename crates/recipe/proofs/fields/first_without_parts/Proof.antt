@@ -3,7 +3,7 @@ use Prim.Native.Nat.{_≤_, _-_}
 use native.Mathlib.Omega.{arith}
 use Rattle.refusals.specs.Search.{firstBelow}
 use Rattle.refusals.proofs.Scan.{first-more, first-hit, first-end}
-use Rattle.recipe.specs.Rules.{breaksParts}
+use Rattle.recipe.specs.Steps.{breaksParts}
 use Rattle.recipe.proofs.fields.first_without_parts.Statement.{statement}
 use Rattle.recipe.proofs.fields.first_without_parts.Tie as tie
 
@@ -30,7 +30,6 @@ lacks-parts-requires : tie.Need-lacks-parts-requires Inv-loop μ-loop
 lacks-parts-requires c κs = tt
 
 returns : tie.Need-returns Inv-loop μ-loop
-unfolding breaksParts
 returns c =
     let turn = c .before .before .before .before .before in
     sym (first-hit _ _ _ (turn .loop-test .taken) (turn .before .loop .inv .1) (sym (c .before .lacks-parts .ensures) ∙ c .if1 .taken))
@@ -42,7 +41,6 @@ loop-less : tie.Need-loop-less Inv-loop μ-loop
 loop-less c = omega arith
 
 loop-again : tie.Need-loop-again Inv-loop μ-loop
-unfolding breaksParts
 loop-again c =
     let turn = c .before .before .before .before .before in
     (omega arith, first-more _ _ (turn .before .loop .inv .1) (sym (c .before .lacks-parts .ensures) ∙ c .if1 .left))

@@ -4,8 +4,8 @@ use Prim.Native.Nat.{_≤_, _-_}
 use native.Mathlib.Omega.{arith}
 use Rattle.refusals.specs.Search.{firstBelow}
 use Rattle.refusals.proofs.Scan.{first-more, first-hit}
-use Rattle.recipe.specs.Rules.{breaksCommon}
 use Rattle.refusals.proofs.Scan.{first-end}
+use Rattle.recipe.specs.Steps.{breaksCommon}
 use Rattle.recipe.proofs.parts.first_common.Statement.{statement}
 use Rattle.recipe.proofs.parts.first_common.Tie as tie
 
@@ -23,7 +23,10 @@ shares-before-requires : tie.Need-shares-before-requires Inv-loop μ-loop
 shares-before-requires c κs = (omega arith, ordered-to _ _ (c .before .before .pre .1) _ (c .loop-test .taken))
 
 returns : tie.Need-returns Inv-loop μ-loop
-returns c = sym (first-hit _ _ _ (c .before .before .loop-test .taken) (c .before .before .before .loop .inv .1) (sym (c .before .shares-before .ensures) ∙ c .if1 .taken))
+returns c =
+    sym
+    (first-hit _ _ _ (c .before .before .loop-test .taken) (c .before .before .before .loop .inv .1)
+    (sym (c .before .shares-before .ensures) ∙ c .if1 .taken))
 
 add-i : tie.Need-add-i Inv-loop μ-loop
 add-i c = omega arith

@@ -4,7 +4,7 @@ use Prim.Native.Nat.{_≤_, _-_}
 use native.Mathlib.Omega.{arith}
 use Rattle.refusals.specs.Search.{anyBelow}
 use Rattle.refusals.proofs.Scan.{any-more, any-hit, any-end}
-use Rattle.recipe.specs.Rules.{breaksCommon, sharesPart}
+use Rattle.recipe.specs.Rules.{sharesPart}
 use Rattle.recipe.proofs.PointOrder.{none-shares, shares-at}
 use Rattle.recipe.proofs.parts.shares_before.Statement.{statement}
 use Rattle.recipe.proofs.parts.shares_before.Tie as tie
@@ -37,11 +37,13 @@ shares-requires : tie.Need-shares-requires Inv-loop μ-loop
 shares-requires c κs = tt
 
 returns : tie.Need-returns Inv-loop μ-loop
-unfolding breaksCommon
 returns c =
     let turn = c .before .before .before .before .before .before in
     let found = turn .before .before .point-start .ensures in
-    sym (any-hit _ _ _ (turn .loop-test .taken) (shares-at _ _ _ (found .0) (found .1) _ _ _ (turn .before .loop .inv .0) (turn .loop-test .taken) ∙ sym (c .before .shares .ensures) ∙ c .if1 .taken))
+    sym
+    (any-hit _ _ _ (turn .loop-test .taken)
+    (shares-at _ _ _ (found .0) (found .1) _ _ _ (turn .before .loop .inv .0) (turn .loop-test .taken)
+    ∙ sym (c .before .shares .ensures) ∙ c .if1 .taken))
 
 add-k : tie.Need-add-k Inv-loop μ-loop
 add-k c = omega arith
@@ -52,11 +54,15 @@ loop-less c = omega arith
 loop-again : tie.Need-loop-again Inv-loop μ-loop
 loop-again c =
     let turn = c .before .before .before .before .before .before in
-    let found = turn .before .before .point-start .ensures in
-    (omega arith, omega arith, any-more _ _ (turn .before .loop .inv .2) (shares-at _ _ _ (found .0) (found .1) _ _ _ (turn .before .loop .inv .0) (turn .loop-test .taken) ∙ sym (c .before .shares .ensures) ∙ c .if1 .left))
+    let found = turn .before .before .point-start .ensures in (
+      omega arith,
+      omega arith,
+      any-more _ _ (turn .before .loop .inv .2)
+          (shares-at _ _ _ (found .0) (found .1) _ _ _ (turn .before .loop .inv .0) (turn .loop-test .taken)
+          ∙ sym (c .before .shares .ensures) ∙ c .if1 .left),
+    )
 
 returns-2 : tie.Need-returns-2 Inv-loop μ-loop
-unfolding breaksCommon
 returns-2 c = any-end _ _ _ (c .before .loop .inv .1) (c .loop-test .left) (c .before .loop .inv .2)
 
 pub shares-before-spec : {M : Type 1} → statement M

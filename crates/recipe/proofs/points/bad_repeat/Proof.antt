@@ -5,7 +5,8 @@ use native.Mathlib.Omega.{arith}
 use Rattle.refusals.specs.Search.{anyBelow, countBelow}
 use Rattle.refusals.proofs.Scan.{any-more, any-hit, any-end}
 use lib.Dec.{leb}
-use Rattle.recipe.specs.Rules.{breaksRepeat, clashes, samePoint}
+use Rattle.recipe.specs.Rules.{breaksRepeat, clashes}
+use Rattle.recipe.specs.Steps.{samePoint}
 use Rattle.recipe.proofs.PointOrder.{none-clashes, clashes-at, rest-same}
 use Rattle.recipe.proofs.points.bad_repeat.Statement.{statement}
 use Rattle.recipe.proofs.points.bad_repeat.Tie as tie
@@ -43,7 +44,10 @@ returns c =
     let turn = c .before .before .before .before .before .before in
     let found = turn .before .before .point-start .ensures in
     let here = turn .before .before .before .args in
-    rw (any-hit (clashes (here .point .now) (here .kind .now) (here .then .now) (here .n)) _ _ (turn .loop-test .taken) (clashes-at _ _ _ (found .0) (found .1) _ _ _ (turn .before .loop .inv .0) (turn .loop-test .taken) ∙ sym (c .before .clash .ensures) ∙ c .if1 .taken))
+    rw
+    (any-hit (clashes (here .point .now) (here .kind .now) (here .then .now) (here .n)) _ _ (turn .loop-test .taken)
+    (clashes-at _ _ _ (found .0) (found .1) _ _ _ (turn .before .loop .inv .0) (turn .loop-test .taken)
+    ∙ sym (c .before .clash .ensures) ∙ c .if1 .taken))
 
 add-k : tie.Need-add-k Inv-loop μ-loop
 add-k c = omega arith
@@ -54,8 +58,13 @@ loop-less c = omega arith
 loop-again : tie.Need-loop-again Inv-loop μ-loop
 loop-again c =
     let turn = c .before .before .before .before .before .before in
-    let found = turn .before .before .point-start .ensures in
-    (omega arith, omega arith, any-more _ _ (turn .before .loop .inv .2) (clashes-at _ _ _ (found .0) (found .1) _ _ _ (turn .before .loop .inv .0) (turn .loop-test .taken) ∙ sym (c .before .clash .ensures) ∙ c .if1 .left))
+    let found = turn .before .before .point-start .ensures in (
+      omega arith,
+      omega arith,
+      any-more _ _ (turn .before .loop .inv .2)
+          (clashes-at _ _ _ (found .0) (found .1) _ _ _ (turn .before .loop .inv .0) (turn .loop-test .taken)
+          ∙ sym (c .before .clash .ensures) ∙ c .if1 .left),
+    )
 
 sub-result : tie.Need-sub-result Inv-loop μ-loop
 sub-result c = omega arith
@@ -65,7 +74,8 @@ unfolding breaksRepeat
 returns-2 c =
     let found = c .before .before .point-start in
     let here = c .before .before .before .args in
-    let count : here .n - found .result ≡ countBelow (samePoint (here .point .now) (here .n)) (here .n) = omega (arith, rest-same (here .point .now) (here .n) (found .result) (found .ensures .0) (found .ensures .1)) in
+    let count : here .n - found .result ≡ countBelow (samePoint (here .point .now) (here .n)) (here .n) =
+    omega (arith, rest-same (here .point .now) (here .n) (found .result) (found .ensures .0) (found .ensures .1)) in
     rw (sym (any-end (clashes _ _ _ _) _ _ (c .before .loop .inv .1) (c .loop-test .left) (c .before .loop .inv .2))) (ap (leb 4) count)
 
 pub bad-repeat-spec : {M : Type 1} → statement M

@@ -23,7 +23,10 @@ bad-repeat-requires : tie.Need-bad-repeat-requires Inv-loop μ-loop
 bad-repeat-requires c κs = (omega arith, ordered-to _ _ (c .before .before .pre .1) _ (c .loop-test .taken))
 
 returns : tie.Need-returns Inv-loop μ-loop
-returns c = sym (first-hit _ _ _ (c .before .before .loop-test .taken) (c .before .before .before .loop .inv .1) (sym (c .before .bad-repeat .ensures) ∙ c .if1 .taken))
+returns c =
+    sym
+    (first-hit _ _ _ (c .before .before .loop-test .taken) (c .before .before .before .loop .inv .1)
+    (sym (c .before .bad-repeat .ensures) ∙ c .if1 .taken))
 
 add-i : tie.Need-add-i Inv-loop μ-loop
 add-i c = omega arith

@@ -22,7 +22,10 @@ out-of-order-requires : tie.Need-out-of-order-requires Inv-loop μ-loop
 out-of-order-requires c κs = omega arith
 
 returns : tie.Need-returns Inv-loop μ-loop
-returns c = sym (first-hit _ _ _ (c .before .before .loop-test .taken) (c .before .before .before .loop .inv .1) (sym (c .before .out-of-order .ensures) ∙ c .if1 .taken))
+returns c =
+    sym
+    (first-hit _ _ _ (c .before .before .loop-test .taken) (c .before .before .before .loop .inv .1)
+    (sym (c .before .out-of-order .ensures) ∙ c .if1 .taken))
 
 add-i : tie.Need-add-i Inv-loop μ-loop
 add-i c = omega arith

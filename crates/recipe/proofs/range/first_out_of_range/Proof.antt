@@ -4,12 +4,18 @@ use mathlib.Core.Bool.{not}
 use Prim.Native.Nat.{_≤_, _-_}
 use Rattle.refusals.specs.Search.{firstBelow}
 use Rattle.refusals.proofs.Scan.{first-more, first-hit, first-end}
-use Rattle.recipe.specs.Rules.{leavesRange}
+use Rattle.recipe.specs.Rules.{inRange, leavesRange}
 use Rattle.recipe.proofs.range.first_out_of_range.Statement.{statement}
 use Rattle.recipe.proofs.range.first_out_of_range.Tie as tie
 
 abbrev Inv-loop : tie.InvT-loop
-Inv-loop recipe i₀ i = (i ≤ recipe .count) × (firstBelow (leavesRange (recipe .point) (recipe .kind) (recipe .op) (recipe .takes) (recipe .gives) (recipe .then) (recipe .otherwise)) i ≡ i)
+Inv-loop recipe i₀ i =
+    (i ≤ recipe .count)
+    ×
+    (firstBelow
+    (leavesRange (recipe .point) (recipe .kind) (recipe .op) (recipe .takes) (recipe .gives) (recipe .then)
+    (recipe .otherwise))
+    i ≡ i)
 
 abbrev μ-loop : tie.MeasureT-loop
 μ-loop recipe i₀ i = recipe .count - i
@@ -43,7 +49,7 @@ in-range-requires : tie.Need-in-range-requires Inv-loop μ-loop
 in-range-requires c κs = tt
 
 returns : tie.Need-returns Inv-loop μ-loop
-unfolding leavesRange
+unfolding leavesRange inRange
 returns c =
     let turn = c .before .before .before .before .before .before .before .before .before in
     sym (first-hit _ _ _ (turn .loop-test .taken) (turn .before .loop .inv .1) (ap not (sym (c .before .in-range .ensures)) ∙ c .if1 .taken))
@@ -55,7 +61,7 @@ loop-less : tie.Need-loop-less Inv-loop μ-loop
 loop-less c = omega arith
 
 loop-again : tie.Need-loop-again Inv-loop μ-loop
-unfolding leavesRange
+unfolding leavesRange inRange
 loop-again c =
     let turn = c .before .before .before .before .before .before .before .before .before in
     (omega arith, first-more _ _ (turn .before .loop .inv .1) (ap not (sym (c .before .in-range .ensures)) ∙ c .if1 .left))

@@ -20,13 +20,27 @@ returns-4 : tie.Need-returns-4
 unfolding inRange
 returns-4 c =
     let a = c .before .before .before .before .args in
-    rw (le-leb _ _ (c .before .before .before .if1 .left), le-leb _ _ (c .before .before .if2 .left), le-leb _ _ (c .before .if3 .left), le-leb (a .takes) 255 (omega arith), le-leb (a .gives) 255 (omega arith), lt-leb _ _ (c .if4 .taken))
+    rw (
+      le-leb _ _ (c .before .before .before .if1 .left),
+      le-leb _ _ (c .before .before .if2 .left),
+      le-leb _ _ (c .before .if3 .left),
+      le-leb (a .takes) 255 (omega arith),
+      le-leb (a .gives) 255 (omega arith),
+      lt-leb _ _ (c .if4 .taken),
+    )
 
 returns-5 : tie.Need-returns-5
 unfolding inRange
 returns-5 c =
     let a = c .before .before .before .before .args in
-    rw (le-leb _ _ (c .before .before .before .if1 .left), le-leb _ _ (c .before .before .if2 .left), le-leb _ _ (c .before .if3 .left), le-leb (a .takes) 255 (omega arith), le-leb (a .gives) 255 (omega arith), le-leb _ _ (c .if4 .left))
+    rw (
+      le-leb _ _ (c .before .before .before .if1 .left),
+      le-leb _ _ (c .before .before .if2 .left),
+      le-leb _ _ (c .before .if3 .left),
+      le-leb (a .takes) 255 (omega arith),
+      le-leb (a .gives) 255 (omega arith),
+      le-leb _ _ (c .if4 .left),
+    )
 
 pub in-range-spec : {M : Type 1} → statement M
 in-range-spec = tie.close (tie.spec returns returns-2 returns-3 returns-4 returns-5)

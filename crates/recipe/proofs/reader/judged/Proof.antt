@@ -1,5 +1,6 @@
 use mathlib.Core.Path.{sym, _∙_}
-use Rattle.recipe.specs.Reader.{reading}
+use Rattle.refusals.specs.Verdict.{ifAccepted}
+use Rattle.recipe.specs.Steps.{reading}
 use borrow.Author.Needs.{needs}
 use Rattle.recipe.proofs.reader.judged.Statement.{statement}
 use Rattle.recipe.proofs.reader.judged.Tie as tie
@@ -17,11 +18,11 @@ refused-requires : tie.Need-refused-requires
 refused-requires c κs = search needs
 
 returns : tie.Need-returns
-unfolding reading
+unfolding reading ifAccepted
 returns c = rw (sym (c .before .before .check-points .ensures) ∙ c .enum-told .given .1)
 
 returns-2 : tie.Need-returns-2
-unfolding reading
+unfolding reading ifAccepted
 returns-2 c =
     let at-refusal = c .before .before in
     let at-check-points = at-refusal .before .before in

@@ -1,10 +1,11 @@
 use mathlib.Core.Path.{refl}
-use Rattle.recipe.specs.Reader.{reading}
+use Rattle.refusals.specs.Verdict.{ifAccepted}
+use Rattle.recipe.specs.Steps.{reading}
 use Rattle.recipe.proofs.reader.refused.Statement.{statement}
 use Rattle.recipe.proofs.reader.refused.Tie as tie
 
 returns : tie.Need-returns
-unfolding reading
+unfolding reading ifAccepted
 returns c = refl
 
 pub refused-spec : {M : Type 1} → statement M

@@ -3,8 +3,8 @@ use native.Mathlib.Omega.{arith}
 use Rattle.refusals.specs.declared.Verdict.{Verdict}
 use Rattle.refusals.specs.Verdict.{firstRefusal}
 use Rattle.recipe.specs.declared.Recipe.{Recipe}
-use Rattle.recipe.specs.Rules.{afterRange}
-use Rattle.recipe.specs.Reader.{recipeOf, reading}
+use Rattle.recipe.specs.Reader.{recipeOf}
+use Rattle.recipe.specs.Steps.{reading, afterRange}
 use Rattle.recipe.proofs.RecordFields.{stored-out, stored-recipe, stored-fine}
 use borrow.Author.Needs.{needs}
 use Rattle.recipe.proofs.reader.store_lines.Statement.{statement}
@@ -47,10 +47,17 @@ returns c =
     let c5 = c .before .before .before .before .before .column6 in
     let c6 = c .before .before .before .before .column7 in
     let start = c .before .before .before .before .before .before .before .before .before .before .before .before in
-    λ f all K. c .refused .ensures ∙ stored-out f (start .args .numbers .now) (start .args .count) all (start .pre .2) K (c0 .result) (c1 .result) (c2 .result) (c3 .result) (c4 .result) (c5 .result) (c6 .result) (c0 .ensures) (c1 .ensures) (c2 .ensures) (c3 .ensures) (c4 .ensures) (c5 .ensures) (c6 .ensures) (afterRange (recipeOf f)) (c .before .before .if1 .taken)
+    λ f all K. c .refused .ensures
+    ∙ stored-out f (start .args .numbers .now) (start .args .count) all (start .pre .2) K (c0 .result) (c1 .result)
+    (c2 .result) (c3 .result) (c4 .result) (c5 .result) (c6 .result) (c0 .ensures) (c1 .ensures) (c2 .ensures)
+    (c3 .ensures) (c4 .ensures) (c5 .ensures) (c6 .ensures) (afterRange (recipeOf f))
+    (c .before .before .if1 .taken)
 
 judged-requires : tie.Need-judged-requires
-judged-requires c κs = let start = c .before .before .before .before .before .before .before .before .before .before .before .before .before .before .before .before .before in (start .pre .1, start .pre .2)
+judged-requires c κs =
+    let start =
+    c .before .before .before .before .before .before .before .before .before .before .before .before .before .before .before .before .before in
+    (start .pre .1, start .pre .2)
 
 returns-2 : tie.Need-returns-2
 returns-2 c =
@@ -62,11 +69,19 @@ returns-2 c =
     let c5 = c .before .before .before .before .before .before .before .before .before .before .before .column6 in
     let c6 = c .before .before .before .before .before .before .before .before .before .before .column7 in
     let left = c .before .before .before .before .before .before .before .before in
-    let start = c .before .before .before .before .before .before .before .before .before .before .before .before .before .before .before .before .before .before in
+    let start =
+    c .before .before .before .before .before .before .before .before .before .before .before .before .before .before .before .before .before .before in
     λ f all K.
     let high = left .if1 .left in
-    c .judged .ensures ∙ ap (λ (r : Recipe). reading (firstRefusal (afterRange r)) r) (stored-recipe f (start .args .numbers .now) (start .args .count) all (start .pre .2) K (c0 .result) (c1 .result) (c2 .result) (c3 .result) (c4 .result) (c5 .result) (c6 .result) (c0 .ensures) (c1 .ensures) (c2 .ensures) (c3 .ensures) (c4 .ensures) (c5 .ensures) (c6 .ensures) high)
-    ∙ ap (λ (v : Verdict). reading v (recipeOf f)) (stored-fine f (start .args .numbers .now) (start .args .count) all (start .pre .2) K (c0 .result) (c1 .result) (c2 .result) (c3 .result) (c4 .result) (c5 .result) (c6 .result) (c0 .ensures) (c1 .ensures) (c2 .ensures) (c3 .ensures) (c4 .ensures) (c5 .ensures) (c6 .ensures) high (afterRange (recipeOf f)))
+    c .judged .ensures
+    ∙ ap (λ (r : Recipe). reading (firstRefusal (afterRange r)) r)
+    (stored-recipe f (start .args .numbers .now) (start .args .count) all (start .pre .2) K (c0 .result)
+    (c1 .result) (c2 .result) (c3 .result) (c4 .result) (c5 .result) (c6 .result) (c0 .ensures) (c1 .ensures)
+    (c2 .ensures) (c3 .ensures) (c4 .ensures) (c5 .ensures) (c6 .ensures) high)
+    ∙ ap (λ (v : Verdict). reading v (recipeOf f))
+    (stored-fine f (start .args .numbers .now) (start .args .count) all (start .pre .2) K (c0 .result) (c1 .result)
+    (c2 .result) (c3 .result) (c4 .result) (c5 .result) (c6 .result) (c0 .ensures) (c1 .ensures) (c2 .ensures)
+    (c3 .ensures) (c4 .ensures) (c5 .ensures) (c6 .ensures) high (afterRange (recipeOf f)))
 
 pub store-lines-spec : {M : Type 1} → statement M
 store-lines-spec =

@@ -3,7 +3,7 @@ use mathlib.Core.Path.{_≡_, refl, sym, _∙_}
 use Prim.Native.Nat.{_≤_, _-_}
 use Rattle.refusals.specs.Search.{firstBelow}
 use Rattle.refusals.proofs.Scan.{first-more, first-hit, first-end}
-use Rattle.recipe.specs.Rules.{breaksTarget}
+use Rattle.recipe.specs.Steps.{breaksTarget}
 use Rattle.recipe.proofs.targets.first_leading_out.Statement.{statement}
 use Rattle.recipe.proofs.targets.first_leading_out.Tie as tie
 
@@ -30,7 +30,6 @@ leads-out-requires : tie.Need-leads-out-requires Inv-loop μ-loop
 leads-out-requires c κs = tt
 
 returns : tie.Need-returns Inv-loop μ-loop
-unfolding breaksTarget
 returns c =
     let turn = c .before .before .before .before .before in
     sym (first-hit _ _ _ (turn .loop-test .taken) (turn .before .loop .inv .1) (sym (c .before .leads-out .ensures) ∙ c .if1 .taken))
@@ -42,7 +41,6 @@ loop-less : tie.Need-loop-less Inv-loop μ-loop
 loop-less c = omega arith
 
 loop-again : tie.Need-loop-again Inv-loop μ-loop
-unfolding breaksTarget
 loop-again c =
     let turn = c .before .before .before .before .before in
     (omega arith, first-more _ _ (turn .before .loop .inv .1) (sym (c .before .leads-out .ensures) ∙ c .if1 .left))

@@ -20,7 +20,10 @@ letter-requires : tie.Need-letter-requires Inv-loop μ-loop
 letter-requires c κs = omega arith
 
 returns : tie.Need-returns Inv-loop μ-loop
-returns c = sym (spare-not _ _ _ (c .before .before .before .loop .inv .0) (c .before .before .loop-test .taken) (λ z. c .if1 .taken (c .before .letter .ensures .0 ∙ z)))
+returns c =
+    sym
+    (spare-not _ _ _ (c .before .before .before .loop .inv .0) (c .before .before .loop-test .taken)
+    (λ z. c .if1 .taken (c .before .letter .ensures .0 ∙ z)))
 
 add-j : tie.Need-add-j Inv-loop μ-loop
 add-j c = omega arith

@@ -1,15 +1,14 @@
 use mathlib.Core.Path.{_≡_, sym}
 use Prim.Native.Nat.{_≤_, _-_}
 use native.Mathlib.Omega.{arith}
-use Rattle.refusals.specs.Search.{countBelow}
+use Rattle.refusals.specs.Search.{countBelow, isOf}
 use Rattle.refusals.proofs.Scan.{first-le}
-use Rattle.steps.specs.Lines.{isAt}
 use Rattle.steps.proofs.PointLines.{none-before, one-more, counted-to}
 use Rattle.steps.proofs.lines.line_count.Statement.{statement}
 use Rattle.steps.proofs.lines.line_count.Tie as tie
 
 abbrev Inv-loop : tie.InvT-loop
-Inv-loop points count point first n₀ n = (first ≤ n) × (n ≤ count) × (countBelow (isAt points point) n ≡ n - first)
+Inv-loop points count point first n₀ n = (first ≤ n) × (n ≤ count) × (countBelow (isOf points point) n ≡ n - first)
 
 abbrev μ-loop : tie.MeasureT-loop
 μ-loop points count point first n₀ n = count - n
@@ -17,8 +16,9 @@ abbrev μ-loop : tie.MeasureT-loop
 loop-holds : tie.Need-loop-holds Inv-loop μ-loop
 loop-holds c =
     let here = c .args in
-    let e : countBelow (isAt (here .points .now) (here .point)) (here .first) ≡ 0 = rw (c .pre .1 .1) (none-before (here .points .now) (here .count) (here .point)) in
-    (omega arith, omega (arith, c .pre .1 .1, first-le (isAt (here .points .now) (here .point)) (here .count)), omega (arith, e))
+    let e : countBelow (isOf (here .points .now) (here .point)) (here .first) ≡ 0 =
+    rw (c .pre .1 .1) (none-before (here .points .now) (here .count) (here .point)) in
+    (omega arith, omega (arith, c .pre .1 .1, first-le (isOf (here .points .now) (here .point)) (here .count)), omega (arith, e))
 
 element-copy-out-if1 : tie.Need-element-copy-out-if1 Inv-loop μ-loop
 element-copy-out-if1 c = omega arith
@@ -31,7 +31,12 @@ returns c =
     let head = c .before .before .before in
     let start = head .before in
     let here = start .args in
-    omega (arith, head .loop .inv, counted-to (here .points .now) (here .count) (here .point) (start .pre .1 .0) (head .loop .n) (omega (arith, start .pre .1 .1)) (c .before .before .loop-test .taken) (c .if1 .taken))
+    omega (
+      arith,
+      head .loop .inv,
+      counted-to (here .points .now) (here .count) (here .point) (start .pre .1 .0) (head .loop .n)
+          (omega (arith, start .pre .1 .1)) (c .before .before .loop-test .taken) (c .if1 .taken),
+    )
 
 add-n : tie.Need-add-n Inv-loop μ-loop
 add-n c = omega arith

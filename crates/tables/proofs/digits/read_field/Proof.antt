@@ -15,7 +15,8 @@ returns-2 : tie.Need-returns-2
 returns-2 c =
     let at-read-number = c .before .before in
     let start = at-read-number .before .before in
-    field-end (start .args .text .now) (at-read-number .read-number .result) (at-read-number .read-number .ensures) (start .args .end) (c .before .if1 .left) (c .if2 .taken)
+    field-end (start .args .text .now) (at-read-number .read-number .result) (at-read-number .read-number .ensures)
+    (start .args .end) (c .before .if1 .left) (c .if2 .taken)
 
 shared-slice-read-if3 : tie.Need-shared-slice-read-if3
 shared-slice-read-if3 c =
@@ -33,7 +34,9 @@ returns-3 c =
     let start = at-read-number .before .before in
     let w = written (start .args .text .now) (at-read-number .read-number .result) (at-read-number .read-number .ensures) (at-if1 .if1 .left) in
     let l = leading-within (start .args .text .now) in
-    field-differs (start .args .text .now) (at-read-number .read-number .result) (at-read-number .read-number .ensures) (start .args .end) (at-if1 .if1 .left) (omega (arith, w .length-is)) (c .if3 .taken)
+    field-differs (start .args .text .now) (at-read-number .read-number .result)
+    (at-read-number .read-number .ensures) (start .args .end) (at-if1 .if1 .left) (omega (arith, w .length-is))
+    (c .if3 .taken)
 
 add-t6 : tie.Need-add-t6
 add-t6 c =
@@ -51,7 +54,8 @@ returns-4 c =
     let start = at-read-number .before .before in
     let w = written (start .args .text .now) (at-read-number .read-number .result) (at-read-number .read-number .ensures) (at-if1 .if1 .left) in
     let l = leading-within (start .args .text .now) in
-    field-good (start .args .text .now) (at-read-number .read-number .result) (at-read-number .read-number .ensures) (start .args .end) (at-if1 .if1 .left) (omega (arith, w .length-is)) (c .if3 .left)
+    field-good (start .args .text .now) (at-read-number .read-number .result) (at-read-number .read-number .ensures)
+    (start .args .end) (at-if1 .if1 .left) (omega (arith, w .length-is)) (c .if3 .left)
 
 pub read-field-spec : {M : Type 1} → statement M
 read-field-spec =

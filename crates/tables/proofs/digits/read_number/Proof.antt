@@ -1,7 +1,8 @@
 use Prim.Native.Nat.{_-_}
 use native.Mathlib.Omega.{arith}
 use lib.ListN.{length}
-use Rattle.tables.proofs.LeadingDigits.{Read, read-none, read-more, read-room, read-stop, read-long, leading-none, leading-end, digit-low, digit-high, digit-is}
+use Rattle.tables.proofs.LeadingDigits.{Read, read-none, read-more, read-room, read-stop, read-long, leading-none, leading-end}
+use Rattle.tables.proofs.LeadingDigits.{digit-low, digit-high, digit-is}
 use Rattle.tables.proofs.digits.read_number.Statement.{statement}
 use Rattle.tables.proofs.digits.read_number.Tie as tie
 
@@ -22,7 +23,8 @@ judge-requires c κs =
     let back2 = c .before .before in
     let back3 = back2 .before in
     let back5 = back3 .before .before in
-    read-stop (back5 .args .text .now) (back3 .loop .i) (back3 .loop .value) (back3 .loop .inv) (leading-none (back5 .args .text .now) (back3 .loop .i) (back2 .loop-test .taken) (digit-low _ (c .if1 .taken)))
+    read-stop (back5 .args .text .now) (back3 .loop .i) (back3 .loop .value) (back3 .loop .inv)
+    (leading-none (back5 .args .text .now) (back3 .loop .i) (back2 .loop-test .taken) (digit-low _ (c .if1 .taken)))
 
 returns : tie.Need-returns Inv-loop μ-loop
 returns c = c .judge .ensures
@@ -32,7 +34,9 @@ judge-requires-2 c κs =
     let back3 = c .before .before .before in
     let back4 = back3 .before in
     let back6 = back4 .before .before in
-    read-stop (back6 .args .text .now) (back4 .loop .i) (back4 .loop .value) (back4 .loop .inv) (leading-none (back6 .args .text .now) (back4 .loop .i) (back3 .loop-test .taken) (digit-high _ (c .if2 .taken)))
+    read-stop (back6 .args .text .now) (back4 .loop .i) (back4 .loop .value) (back4 .loop .inv)
+    (leading-none (back6 .args .text .now) (back4 .loop .i) (back3 .loop-test .taken)
+    (digit-high _ (c .if2 .taken)))
 
 returns-2 : tie.Need-returns-2 Inv-loop μ-loop
 returns-2 c = c .judge2 .ensures
@@ -43,7 +47,8 @@ returns-3 c =
     let at-loop-test = at-if1 .before .before in
     let head = at-loop-test .before in
     let start = head .before .before in
-    read-long (start .args .text .now) (head .loop .i) (head .loop .value) (head .loop .inv) (c .if3 .taken) (at-loop-test .loop-test .taken) (digit-is _ (at-if1 .if1 .left) (c .before .if2 .left))
+    read-long (start .args .text .now) (head .loop .i) (head .loop .value) (head .loop .inv) (c .if3 .taken)
+    (at-loop-test .loop-test .taken) (digit-is _ (at-if1 .if1 .left) (c .before .if2 .left))
 
 mul-value : tie.Need-mul-value Inv-loop μ-loop
 mul-value c =
@@ -75,12 +80,15 @@ loop-again c =
     let at-loop-test = at-if1 .before .before in
     let head = at-loop-test .before in
     let start = head .before .before in
-    rw (c .digit-value .ensures) (read-more (start .args .text .now) (head .loop .i) (head .loop .value) (head .loop .inv) (at-loop-test .loop-test .taken) (omega arith) (at-if1 .if1 .left) (at-if2 .if2 .left))
+    rw (c .digit-value .ensures)
+    (read-more (start .args .text .now) (head .loop .i) (head .loop .value) (head .loop .inv)
+    (at-loop-test .loop-test .taken) (omega arith) (at-if1 .if1 .left) (at-if2 .if2 .left))
 
 judge-requires-3 : tie.Need-judge-requires-3 Inv-loop μ-loop
 judge-requires-3 c κs =
     let back3 = c .before .before .before in
-    read-stop (back3 .args .text .now) (c .before .loop .i) (c .before .loop .value) (c .before .loop .inv) (leading-end (back3 .args .text .now) (c .before .loop .i) (omega arith))
+    read-stop (back3 .args .text .now) (c .before .loop .i) (c .before .loop .value) (c .before .loop .inv)
+    (leading-end (back3 .args .text .now) (c .before .loop .i) (omega arith))
 
 returns-4 : tie.Need-returns-4 Inv-loop μ-loop
 returns-4 c = c .judge3 .ensures

@@ -1,7 +1,7 @@
 -- The loop: the numbers of the lines before i are in range and stored.
 use mathlib.Core.Path.{_≡_, refl, sym, ap, _∙_}
 use mathlib.Core.List.{_++_}
-use Prim.Native.Nat.{ℕ, _-_, _≤_}
+use Prim.Native.Nat.{ℕ, _-_, _<_, _≤_}
 use native.Mathlib.Omega.{arith}
 use lib.ListN.{drop, replicate}
 use Rattle.refusals.specs.Search.{firstBelow, tabulate}
@@ -13,7 +13,9 @@ use Rattle.tables.proofs.field.column.Statement.{statement}
 use Rattle.tables.proofs.field.column.Tie as tie
 
 abbrev Inv-loop : tie.InvT-loop
-Inv-loop numbers count field least most values₀ i₀ values i = (i ≤ count) × (firstBelow (outside numbers field least most) i ≡ i) × (values ≡ tabulate i (keptNumber numbers field) ++ drop i (replicate 64 0))
+Inv-loop numbers count field least most values₀ i₀ values i =
+    (i ≤ count) × (firstBelow (outside numbers field least most) i ≡ i)
+    × (values ≡ tabulate i (keptNumber numbers field) ++ drop i (replicate 64 0))
 
 abbrev μ-loop : tie.MeasureT-loop
 μ-loop numbers count field least most values₀ i₀ values i = count - i
@@ -40,7 +42,17 @@ returns c =
     let test = c .before .before in
     let l = test .before .loop in
     let start = test .before .before .args in
-    record { fewer = l .inv .0; lines-are = sym (first-hit _ _ _ (test .loop-test .taken) (l .inv .1) (outside-low (start .numbers .now) (start .field) (start .least) (start .most) (l .i) (c .if1 .taken))); values-are = l .inv .2 }
+    record {
+      fewer =
+          l .inv .0;
+      lines-are =
+          sym
+          (first-hit _ _ _ (test .loop-test .taken) (l .inv .1)
+          (outside-low (start .numbers .now) (start .field) (start .least) (start .most) (l .i)
+          (c .if1 .taken)));
+      values-are =
+          l .inv .2;
+    }
 
 returns-2 : tie.Need-returns-2 Inv-loop μ-loop
 unfolding keptNumber
@@ -48,7 +60,9 @@ returns-2 c =
     let test = c .before .before .before in
     let l = test .before .loop in
     let start = test .before .before .args in
-    record { fewer = l .inv .0; lines-are = sym (first-hit _ _ _ (test .loop-test .taken) (l .inv .1) (outside-high (start .numbers .now) (start .field) (start .least) (start .most) (l .i) (c .before .if1 .left) (c .if2 .taken))); values-are = l .inv .2 }
+    let high : start .most < keptNumber (start .numbers .now) (start .field) (l .i) = omega arith in
+    let out = outside-high (start .numbers .now) (start .field) (start .least) (start .most) (l .i) (c .before .if1 .left) high in
+    record { fewer = l .inv .0; lines-are = sym (first-hit _ _ _ (test .loop-test .taken) (l .inv .1) out); values-are = l .inv .2 }
 
 cast-values : tie.Need-cast-values Inv-loop μ-loop
 cast-values c = omega arith
@@ -68,7 +82,12 @@ loop-again c =
     let test = c .before .before .before in
     let l = test .before .loop in
     let start = test .before .before .args in
-    (omega arith, first-more _ _ (l .inv .1) (inside (start .numbers .now) (start .field) (start .least) (start .most) (l .i) (c .before .if1 .left) (c .if2 .left)), rw (l .inv .2) (fill (keptNumber (start .numbers .now) (start .field)) (replicate 64 0) (l .i) (omega arith)))
+    let low : keptNumber (start .numbers .now) (start .field) (l .i) ≤ start .most = omega arith in
+    let in-range = inside (start .numbers .now) (start .field) (start .least) (start .most) (l .i) (c .before .if1 .left) low in (
+      omega arith,
+      first-more _ _ (l .inv .1) in-range,
+      rw (l .inv .2) (fill (keptNumber (start .numbers .now) (start .field)) (replicate 64 0) (l .i) (omega arith)),
+    )
 
 returns-3 : tie.Need-returns-3 Inv-loop μ-loop
 returns-3 c =

@@ -2,7 +2,7 @@ use Prim.Native.Nat.{_-_, _≤_}
 use mathlib.Core.Path.{_≡_, ap, _∙_}
 use native.Mathlib.Omega.{arith}
 use lib.ListN.{length, drop}
-use Rattle.tables.specs.Lines.{upTo}
+use Rattle.tables.specs.Reading.{upTo}
 use Rattle.tables.proofs.TextPieces.{rest, line-within}
 use Rattle.tables.proofs.LineWalk.{Stands, stands-first, stands-next, found-past, found-end, found-line}
 use Rattle.tables.proofs.lines.find_line.Statement.{statement}

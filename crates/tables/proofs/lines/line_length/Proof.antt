@@ -2,7 +2,7 @@ use Prim.Native.Nat.{_+_, _-_, _≤_}
 use mathlib.Core.Path.{_≡_}
 use native.Mathlib.Omega.{arith}
 use lib.ListN.{length, drop}
-use Rattle.tables.specs.Lines.{upTo}
+use Rattle.tables.specs.Reading.{upTo}
 use Rattle.tables.proofs.TextPieces.{upTo-stop, upTo-more, upTo-end}
 use Rattle.tables.proofs.lines.line_length.Statement.{statement}
 use Rattle.tables.proofs.lines.line_length.Tie as tie

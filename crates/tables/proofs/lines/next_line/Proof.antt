@@ -1,7 +1,7 @@
 use mathlib.Core.Path.{_≡_, ap, _∙_}
 use native.Mathlib.Omega.{arith}
 use lib.ListN.{length, drop}
-use Rattle.tables.specs.Lines.{upTo}
+use Rattle.tables.specs.Reading.{upTo}
 use Rattle.tables.proofs.TextPieces.{rest, next-some, next-none, line-within}
 use borrow.Author.Needs.{needs}
 use Rattle.tables.proofs.lines.next_line.Statement.{statement}

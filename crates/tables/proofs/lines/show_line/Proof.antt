@@ -24,7 +24,8 @@ returns : tie.Need-returns
 returns c =
     let at-find-line = c .before .before in
     let F = at-find-line .find-line .ensures in
-    let n : at-find-line .find-line .result .start + at-find-line .find-line .result .length - at-find-line .find-line .result .start ≡ at-find-line .find-line .result .length = omega arith in
+    let n : at-find-line .find-line .result .start + at-find-line .find-line .result .length - at-find-line .find-line .result .start ≡ at-find-line .find-line .result .length =
+    omega arith in
     rw n (F .bytes)
 
 pub show-line-spec : {M : Type 1} → statement M

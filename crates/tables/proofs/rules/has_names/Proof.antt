@@ -43,8 +43,13 @@ loop-less c = omega arith
 loop-again : tie.Need-loop-again Inv-loop μ-loop
 loop-again c =
     let head = c .before .before .before .before .before in
-    let start = head .before in
-    (omega arith, omega arith, head .loop .inv .2 ∙ starts-more (start .args .names .now) (start .args .file .now) (head .loop .i) (omega arith) (omega arith) (c .if2 .left))
+    let start = head .before in (
+      omega arith,
+      omega arith,
+      head .loop .inv .2
+          ∙ starts-more (start .args .names .now) (start .args .file .now) (head .loop .i) (omega arith) (omega arith)
+          (c .if2 .left),
+    )
 
 returns-3 : tie.Need-returns-3 Inv-loop μ-loop
 returns-3 c =
