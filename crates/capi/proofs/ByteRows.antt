@@ -5,8 +5,8 @@ use Prim.Native.Nat.{ℕ, zero, suc, _+_, _*_, _<_, _≤_}
 use native.Mathlib.Nat.{mul-le-mul-right}
 use native.Mathlib.Numerals.{add-one}
 use native.Mathlib.Omega.{arith}
-use lib.ListN.{length, getD, set, take, drop, length-append, length-drop}
-use lib.Seq.{length-take-le, take-all, take-suc, take-at, drop-append-add, drop-drop, sets, sets-eq, set-split, drop-set-lt, length-sets}
+use lib.ListN.{length, set, drop, length-append, length-drop}
+use lib.Seq.{take-at, drop-append-add, drop-drop, sets, sets-eq, set-split, drop-set-lt, length-sets}
 use Rattle.capi.specs.Encoding.{rowsOf}
 
 -- some bytes put after what was put before
@@ -16,28 +16,6 @@ put-after P old vs room =
     sets-eq vs (P ++ drop (length P) old) (length P) (omega (arith, length-append P (drop (length P) old), length-drop (length P) old))
     ∙ ap (λ (l : List ℕ). (l ++ vs) ++ drop (length P + length vs) (P ++ drop (length P) old)) (take-at P (drop (length P) old) (length P) refl)
     ∙ ap (λ (l : List ℕ). (P ++ vs) ++ l) (drop-append-add P (drop (length P) old) (length vs) ∙ drop-drop (length vs) (length P) old)
-
--- one byte more behind those stored
-sets-more : (l vs : List ℕ) (at b : ℕ) → sets l at (vs ++ (b ∷ [])) ≡ set (sets l at vs) (at + length vs) b
-sets-more l [] at b = let here : at + 0 ≡ at = omega arith in rw here
-sets-more l (v ∷ vs) at b =
-    let there : at + suc (length vs) ≡ suc at + length vs = omega arith in
-    rw there (sets-more (set l at v) vs (suc at) b)
-
--- the bytes before byte i are stored, and then byte i
-pub stored-next :
-    (old bytes : List ℕ) (at i : ℕ)
-    → i < length bytes
-    → set (sets old at (take i bytes)) (at + i) (getD bytes i 0) ≡ sets old at (take (i + 1) bytes)
-stored-next old bytes at i low =
-    let many : length (take i bytes) ≡ i = length-take-le i bytes (omega arith) in
-    ap (λ (n : ℕ). set (sets old at (take i bytes)) (at + n) (getD bytes i 0)) (sym many)
-    ∙ sym (sets-more old (take i bytes) at (getD bytes i 0))
-    ∙ rw (add-one i, take-suc bytes i 0 low)
-
--- all of them are
-pub stored-all : (old bytes : List ℕ) (at i : ℕ) → length bytes ≤ i → sets old at (take i bytes) ≡ sets old at bytes
-stored-all old bytes at i all = ap (sets old at) (take-all i bytes all)
 
 -- three pieces put at the start
 pub put-three :

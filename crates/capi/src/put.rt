@@ -3,23 +3,10 @@ ghost use mathlib.Core.Path.{_≡_};
 ghost use mathlib.Core.List.{_++_};
 ghost use Prim.Native.Nat.{_+_, _≤_};
 ghost use lib.ListN.{length, drop};
-ghost use lib.Seq.{sets};
 ghost use Rattle.capi.specs.Encoding.{cellBytes, recipeBytes, runBytes};
 use cell::Cell;
 use recipe::Recipe;
 use run::Run;
-
-// Stores bytes from a place on.
-fn put(buffer: &mut [u8], at: usize, bytes: &[u8])
-    requires { ⌜ at + length (now bytes) ≤ length (now buffer) ⌝ }
-    ensures { λ _. ⌜ now (buffer .exit) ≡ sets (now (buffer .entry)) at (now (bytes .entry)) ⌝ }
-{
-    let mut i = 0;
-    while i < bytes.len() {
-        buffer[at + i] = bytes[i];
-        i += 1;
-    }
-}
 
 // Writes a cell record to the buffer's start.
 pub fn put_cell(cell: Cell, buffer: &mut [u8])
@@ -37,7 +24,7 @@ pub fn put_cell(cell: Cell, buffer: &mut [u8])
     let mut i = 0;
     while i < 64 {
         let row = [resource[i], from[i], act[i], arg[i], to[i]];
-        put(buffer, at, &row);
+        buffers::put(buffer, at, &row);
         at += 5;
         i += 1;
     }
@@ -69,7 +56,7 @@ pub fn put_recipe(recipe: Recipe, buffer: &mut [u8])
             then[i],
             otherwise[i],
         ];
-        put(buffer, at, &row);
+        buffers::put(buffer, at, &row);
         at += 7;
         i += 1;
     }
@@ -84,7 +71,7 @@ pub fn put_run(run: Run, buffer: &mut [u8])
     let state = configuration.state;
     let place = configuration.place;
     let point = [run.point];
-    put(buffer, 0, &point);
-    put(buffer, 1, &state);
-    put(buffer, 7, &place);
+    buffers::put(buffer, 0, &point);
+    buffers::put(buffer, 1, &state);
+    buffers::put(buffer, 7, &place);
 }

@@ -15,7 +15,7 @@ use Rattle.refusals.proofs.Rules.{first-accepts, rest-accepts}
 use Rattle.tables.specs.Lines.{valueLines}
 use Rattle.cell.specs.declared.Cell.{Cell}
 use Rattle.cell.specs.Reader.{cellOf, judgeCell, readCell}
-use Rattle.cell.specs.Steps.{reading}
+use Rattle.cell.specs.Inner.{reading}
 use Rattle.cell.specs.Rules.{inRange, leavesRange, rule4, rule5, rule6, cellRules, checkCell}
 
 -- what rule 4 leaves of the numbers of line n

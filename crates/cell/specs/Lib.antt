@@ -1,3 +1,3 @@
 pub mod Rules
 pub mod Reader
-pub mod Steps
+pub mod Inner

@@ -9,7 +9,7 @@ ghost use Prim.Native.Nat.{_≤_};
 ghost use Rattle.refusals.specs.Verdict.{firstRefusal};
 ghost use Rattle.cell.specs.Reader.{readCell};
 ghost use Rattle.cell.specs.Rules.{rule4, checkCell};
-ghost use Rattle.cell.specs.Steps.{afterRange};
+ghost use Rattle.cell.specs.Inner.{afterRange};
 use refusals::Refusal;
 use refusals::Verdict;
 use tables::Form;

@@ -7,7 +7,7 @@ ghost use Rattle.refusals.specs.Verdict.{firstRefusal};
 ghost use Rattle.tables.specs.Lines.{valueLines};
 ghost use Rattle.tables.specs.Reading.{Kept};
 ghost use Rattle.cell.specs.Reader.{cellOf, noCell};
-ghost use Rattle.cell.specs.Steps.{reading, afterRange};
+ghost use Rattle.cell.specs.Inner.{reading, afterRange};
 ghost use Rattle.cell.specs.Rules.{rule4, checkCell};
 use crate::Cell;
 use crate::CellReading;

@@ -5,8 +5,8 @@ use mathlib.Core.List.{List, [], _∷_, _++_, append-assoc, append-nil}
 use Prim.Native.Nat.{ℕ, zero, suc, _+_, _-_, _/_, _<_, _≤_}
 use native.Mathlib.Numerals.{add-one, sub-one}
 use native.Mathlib.Omega.{arith}
-use lib.ListN.{length, take, set, getD, length-set, length-append}
-use lib.Seq.{length-take-le, take-all, take-suc, take-suc-set}
+use lib.ListN.{length, take, drop, set, length-set, length-append}
+use lib.Seq.{length-take-le, take-suc-set, take-at, sets, sets-eq, length-sets}
 use lib.Dec.{ltb}
 use borrow.Author.Tests.{lt-ltb, le-ltb}
 use Rattle.printout.specs.Text.{lastDigit, digitsOf, field, moveLine, refusalLine, Put}
@@ -64,16 +64,24 @@ unfolding digitsOf
 digits-more zero n some high = absurd (some refl)
 digits-more (suc most) n some high = rw (le-ltb n 10 high, sub-one)
 
--- the bytes before i are put, and then byte i
-pub put-next : {entry middle exit : List ℕ} {at before end : ℕ} (bytes : List ℕ) (i : ℕ) → i < length bytes → Put entry middle at (take i bytes) before
-    → Put middle exit before (getD bytes i 0 ∷ []) end
-    → Put entry exit at (take (i + 1) bytes) end
-put-next bytes i low p q = put-same (rw (add-one i) (sym (take-suc bytes i 0 low))) (put-then p q)
-
--- all of them are put
-pub put-all : {entry exit : List ℕ} {at end : ℕ} (bytes : List ℕ) (i : ℕ) → length bytes ≤ i
-    → Put entry exit at (take i bytes) end → Put entry exit at bytes end
-put-all bytes i past p = put-same (take-all i bytes past) p
+-- some bytes are stored behind the first `at`
+pub put-stored :
+    {exit : List ℕ} (text : List ℕ) (at : ℕ) (bytes : List ℕ)
+    → at + length bytes ≤ length text
+    → exit ≡ sets text at bytes
+    → Put text exit at bytes (at + length bytes)
+put-stored text at bytes room stored =
+    let before : length (take at text) ≡ at = length-take-le at text (omega arith) in
+    let both : length (take at text ++ bytes) ≡ at + length bytes =
+    length-append (take at text) bytes ∙ ap (λ (n : ℕ). n + length bytes) before in
+    let rest = drop (at + length bytes) text in
+    record {
+      end-is = refl;
+      inside = rw (stored, length-sets text at bytes) room;
+      bytes-are =
+          ap (take (at + length bytes)) (stored ∙ sets-eq bytes text at room)
+          ∙ take-at (take at text ++ bytes) rest (at + length bytes) both;
+    }
 
 -- a number has at most 20 digits, and then the byte that ends it
 pub field-few : (n last : ℕ) → length (field n last) ≤ 21

@@ -19,13 +19,8 @@ fn put_bytes(text: &mut [u8], at: usize, bytes: &[u8]) -> usize
     requires { ⌜ at + length (now bytes) ≤ length (now text) ⌝ }
     ensures { λ r. ⌜ Put (now (text .entry)) (now (text .exit)) at (now (bytes .entry)) r ⌝ }
 {
-    let mut end = at;
-    let mut i = 0;
-    while i < bytes.len() {
-        end = put_byte(text, end, bytes[i]);
-        i += 1;
-    }
-    end
+    buffers::put(text, at, bytes);
+    at + bytes.len()
 }
 
 // The last digit of a number.

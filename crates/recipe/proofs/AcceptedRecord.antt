@@ -15,7 +15,7 @@ use Rattle.refusals.proofs.Rules.{first-accepts, rest-accepts}
 use Rattle.tables.specs.Lines.{valueLines}
 use Rattle.recipe.specs.declared.Recipe.{Recipe}
 use Rattle.recipe.specs.Reader.{recipeOf, judgeRecipe, readRecipe}
-use Rattle.recipe.specs.Steps.{reading}
+use Rattle.recipe.specs.Inner.{reading}
 use Rattle.recipe.specs.Rules.{inRange, leavesRange, rule4, rule7, rule8, rule9, rule10, rule11, rule12, recipeRules, checkRecipe}
 
 -- what rule 4 leaves of the numbers of line n

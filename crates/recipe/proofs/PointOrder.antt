@@ -18,7 +18,7 @@ use Rattle.refusals.specs.declared.Verdict.the-variants.{Accepted}
 use Rattle.refusals.proofs.Verdicts.{none-breaks}
 use Rattle.recipe.specs.declared.Recipe.{Recipe}
 use Rattle.recipe.specs.Rules.{breaksOrder, rule7, clashes, pointCount, common, sharesPart}
-use Rattle.recipe.specs.Steps.{samePoint}
+use Rattle.recipe.specs.Inner.{samePoint}
 
 -- what rule 7 asks of a line that another comes before
 pub order-next :

@@ -19,7 +19,7 @@ use Rattle.tables.specs.Reading.{Kept, within, Ranged}
 use Rattle.tables.proofs.Columns.{within-most, column-at, OfFile, of-file, read-all}
 use Rattle.recipe.specs.Rules.{leavesRange, rule4, inRange}
 use Rattle.recipe.specs.Reader.{recipeOf, noRecipe}
-use Rattle.recipe.specs.Steps.{reading}
+use Rattle.recipe.specs.Inner.{reading}
 
 leaves : List ℕ → ℕ → Bool
 leaves f = leavesRange (column f 0) (column f 1) (column f 2) (column f 3) (column f 4) (column f 5) (column f 6)

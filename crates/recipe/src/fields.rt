@@ -3,7 +3,7 @@ ghost use mathlib.Core.Path.{_≡_};
 ghost use Prim.Native.Nat.{_≤_};
 ghost use Rattle.refusals.specs.Search.{firstBelow};
 ghost use Rattle.recipe.specs.Rules.{hasUnused, breaksUnused, lacksParts};
-ghost use Rattle.recipe.specs.Steps.{breaksParts};
+ghost use Rattle.recipe.specs.Inner.{breaksParts};
 use crate::Recipe;
 
 // Whether a field that the kind leaves unused isn't 0.

@@ -12,7 +12,7 @@ ghost use Prim.Native.Nat.{_<_, _≤_};
 ghost use Rattle.refusals.specs.Verdict.{firstRefusal};
 ghost use Rattle.recipe.specs.Reader.{readRecipe};
 ghost use Rattle.recipe.specs.Rules.{rule4, rule7, rule8, rule9, rule10, rule11, rule12, checkRecipe};
-ghost use Rattle.recipe.specs.Steps.{afterRange};
+ghost use Rattle.recipe.specs.Inner.{afterRange};
 use refusals::Refusal;
 use refusals::Verdict;
 use tables::Form;

@@ -4,7 +4,7 @@ ghost use mathlib.Core.Bool.{_||_};
 ghost use Prim.Native.Nat.{_+_, _<_, _≤_};
 ghost use Rattle.refusals.specs.Search.{firstBelow};
 ghost use Rattle.recipe.specs.Rules.{common, breaksOrder};
-ghost use Rattle.recipe.specs.Steps.{breaksCommon};
+ghost use Rattle.recipe.specs.Inner.{breaksCommon};
 use crate::points;
 
 // Whether two sums have a part in common.

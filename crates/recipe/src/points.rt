@@ -5,7 +5,7 @@ ghost use Prim.Native.Nat.{ℕ, _+_, _<_, _≤_};
 ghost use lib.Dec.{eqb, leb};
 ghost use Rattle.refusals.specs.Search.{firstBelow};
 ghost use Rattle.recipe.specs.Rules.{breaksOrder, breaksRepeat, pointCount};
-ghost use Rattle.recipe.specs.Steps.{samePoint};
+ghost use Rattle.recipe.specs.Inner.{samePoint};
 
 // One more than a point, which a byte may not hold.
 fn one_more(point: u8) -> usize

@@ -7,7 +7,7 @@ ghost use Rattle.refusals.specs.Verdict.{firstRefusal};
 ghost use Rattle.tables.specs.Lines.{valueLines};
 ghost use Rattle.tables.specs.Reading.{Kept};
 ghost use Rattle.recipe.specs.Reader.{recipeOf, noRecipe};
-ghost use Rattle.recipe.specs.Steps.{reading, afterRange};
+ghost use Rattle.recipe.specs.Inner.{reading, afterRange};
 ghost use Rattle.recipe.specs.Rules.{rule4, checkRecipe};
 use crate::Recipe;
 use crate::RecipeReading;

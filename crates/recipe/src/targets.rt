@@ -3,7 +3,7 @@ ghost use mathlib.Core.Path.{_≡_};
 ghost use Prim.Native.Nat.{_≤_};
 ghost use Rattle.refusals.specs.Search.{firstBelow};
 ghost use Rattle.recipe.specs.Rules.{leadsOut};
-ghost use Rattle.recipe.specs.Steps.{breaksTarget};
+ghost use Rattle.recipe.specs.Inner.{breaksTarget};
 use crate::Recipe;
 
 // Whether a line leads to a point that isn't there. An end leads nowhere.

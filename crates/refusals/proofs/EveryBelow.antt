@@ -10,6 +10,7 @@ use lib.Dec.{eqb}
 use borrow.Author.Tests.{eq-eqb, ne-eqb}
 use Rattle.refusals.specs.Search.{anyBelow, allBelow, countBelow}
 use Rattle.refusals.proofs.Scan.{any-hit}
+use Rattle.refusals.proofs.Verdicts.{and-left, and-right}
 
 module _ (f : ℕ → Bool) where
   pub all-by : (n : ℕ) → ((i : ℕ) → i < n → f i ≡ true) → allBelow f n ≡ true
@@ -22,17 +23,9 @@ module _ (f : ℕ → Bool) where
   all-at zero i all low = absurd (not-suc-le-zero low)
   all-at (suc n) i all low =
       ⊎-elim
-      (λ e. subst (λ (m : ℕ). f m ≡ true) (sym e) (left (f n) (allBelow f n) all))
-      (λ lt. all-at n i (right (f n) (allBelow f n) all) lt)
+      (λ e. subst (λ (m : ℕ). f m ≡ true) (sym e) (and-left (f n) (allBelow f n) all))
+      (λ lt. all-at n i (and-right (f n) (allBelow f n) all) lt)
       (eq-or-lt-of-le (le-of-suc-le-suc low))
-    where
-      left : (a b : Bool) → (a && b) ≡ true → a ≡ true
-      left true b e = refl
-      left false b e = e
-
-      right : (a b : Bool) → (a && b) ≡ true → b ≡ true
-      right true b e = e
-      right false b e = cc
 
   -- a loop that counts up: every number so far passes, and this one too
   pub all-more : (i : ℕ) → allBelow f i ≡ true → f i ≡ true → allBelow f (i + 1) ≡ true

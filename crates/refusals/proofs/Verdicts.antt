@@ -42,7 +42,7 @@ test-fails false refusal line e = refl
 
 -- where a rule accepts, no line breaks it
 pub none-breaks : (refusal : Refusal) (breaks : ℕ → Bool) (count : ℕ) → firstLine refusal breaks count ≡ Accepted → (n : ℕ) → n < count → breaks n ≡ false
-unfolding firstLine
+unfolding firstLine lineVerdict
 none-breaks refusal breaks count e n low =
     let past : count ≤ firstBelow breaks count = ltb-false _ _ (test-fails _ _ _ e) in
     first-none breaks n count low (omega (arith, first-le breaks count))
@@ -83,11 +83,11 @@ module _ (refusal : Refusal) (f : ℕ → Bool) (count first : ℕ) (found : fir
   line e = rw (← found) e
 
   pub broken : (rest : List Verdict) → first < count → Refused refusal (first + 2) ≡ firstRefusal (firstLine refusal f count ∷ rest)
-  unfolding firstRefusal firstLine
+  unfolding firstRefusal firstLine lineVerdict
   broken rest low = rw (← found, lt-ltb first count low)
 
   pub kept : {v : Verdict} (rest : List Verdict) → count ≤ first → v ≡ firstRefusal rest → v ≡ firstRefusal (firstLine refusal f count ∷ rest)
-  unfolding firstRefusal firstLine
+  unfolding firstRefusal firstLine lineVerdict
   kept rest high next = rw (← found, le-ltb first count high) next
 
 -- no refusal has the number 0

@@ -16,14 +16,14 @@ firstRefusal [] = Accepted
 firstRefusal (Accepted ∷ rest) = firstRefusal rest
 firstRefusal (Refused refusal line ∷ rest) = Refused refusal line
 
--- the verdict of a rule whose first breaking line is `first`, of `count` lines: only the code's own step cites it
+-- "A file refusal carries the first breaking line (names line 1, so value line n is n+2)":
+-- the verdict of a rule whose first breaking line is `first`, of `count` lines
 unfoldable pub lineVerdict : Refusal → ℕ → ℕ → Verdict
 lineVerdict refusal first count = cond (ltb first count) (Refused refusal (first + 2)) Accepted
 
--- "A file refusal carries the first breaking line (names line 1, so value line n is n+2)":
 -- the verdict of a rule that the lines at which `breaks` holds break
 unfoldable pub firstLine : Refusal → (ℕ → Bool) → ℕ → Verdict
-firstLine refusal breaks count = cond (ltb (firstBelow breaks count) count) (Refused refusal (firstBelow breaks count + 2)) Accepted
+firstLine refusal breaks count = lineVerdict refusal (firstBelow breaks count) count
 
 -- "or 0 in rules 3 and 5": the verdict of a rule that names no line
 unfoldable pub noLine : Refusal → Bool → Verdict

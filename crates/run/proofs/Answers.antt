@@ -22,7 +22,7 @@ use Rattle.run.specs.declared.Move.{Move}
 use Rattle.run.specs.declared.Report.{Report}
 use Rattle.run.specs.declared.Place.{Place}
 use Rattle.run.specs.Calls.{entryAt, entryRules, moveRules, reportRules, rule17, rule18, rule19, nextMove, nextRun, reportOf}
-use Rattle.run.specs.Steps.{moveAnswer, findEntry}
+use Rattle.run.specs.Inner.{moveAnswer, findEntry}
 
 -- what is answered with a verdict
 unfoldable pub placeAnswer : Verdict → ℕ → Place

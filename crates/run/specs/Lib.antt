@@ -1,4 +1,4 @@
 pub mod Calls
 pub mod Book
 pub mod Promises
-pub mod Steps
+pub mod Inner

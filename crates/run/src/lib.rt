@@ -4,7 +4,7 @@ ghost use Rattle.refusals.specs.declared.Verdict.the-variants.{Refused};
 ghost use Rattle.refusals.specs.Verdict.{firstRefusal};
 ghost use Rattle.positions.specs.Sizes.{Fitting};
 ghost use Rattle.run.specs.Calls.{runRules, tableRules, freshRun, nextMove, reportOf, Stored, partPlace};
-ghost use Rattle.run.specs.Steps.{findEntry};
+ghost use Rattle.run.specs.Inner.{findEntry};
 use cell::Cell;
 use positions::Configuration;
 use positions::Sizes;

@@ -11,7 +11,7 @@ use Rattle.refusals.specs.declared.Verdict.{Verdict}
 use Rattle.refusals.specs.declared.Verdict.the-variants.{Accepted, Refused}
 use Rattle.refusals.specs.declared.Refusal.the-variants.{NotOpen}
 use Rattle.refusals.specs.Search.{firstBelow, anyBelow, allBelow, countBelow, greatestBelow, tabulate, isOf}
-use Rattle.refusals.specs.Verdict.{firstRefusal, firstLine, noLine, rule3, ifAccepted}
+use Rattle.refusals.specs.Verdict.{firstRefusal, firstLine, noLine, rule3, ifAccepted, lineVerdict}
 use Rattle.refusals.proofs.Verdicts.{refused-not}
 use Rattle.tables.specs.Numbers.{isDigit}
 use Rattle.cell.specs.declared.Cell.{Cell}
@@ -109,12 +109,12 @@ unfolding isOf firstBelow anyBelow allBelow countBelow greatestBelow tabulate fi
     recipe.lacksParts recipe.rule10 recipe.holdsPart recipe.common recipe.sharesPart recipe.rule11 recipe.pointCount recipe.leadsOut
     recipe.rule12 recipe.recipeRules sumBelow productBelow stateCount stateCounts partsIn partCount jointCount sizesFor start stateNumber
     placeNumber positionOf checkRecords recordRules rule13 rule14 placeCount isPosition rule16 firstLineOf linesOf kindOf thenOf elseOf
-    isTaken isGiven freshRun entryOf tableRules entryRules moveRules reportRules rule17 rule18 rule19 nextMove nextRun reportOf filled benchCell
-    benchRecipe benchEntry benchTable isDigit ifAccepted lastDigit digitsOf field moveLine digits row cellFile recipeWith recipeFile
-    cellNames recipeNames numbered positionIn reported told printed Along mayDo acts actsOn howMany portFits isStep isSilentStep stateAfter
-    receiver handed placeAfter after serves matches standsAt present free carries putThere placed partsMoved afterCarry entryKind letter
-    unused lettersUsed isLine isFormed only stepOf mayBeTaken taken effect isMove opens leaves makes leadsTo cell.inRange cell.gap
-    cell.hasNoLine recipe.inRange recipe.hasUnused farthest stateWeight stateFits placeFits isSilent isFree
+    isTaken isGiven freshRun entryOf tableRules entryRules moveRules reportRules rule17 rule18 rule19 nextMove nextRun reportOf filled
+    benchCell benchRecipe benchEntry benchTable isDigit ifAccepted lastDigit digitsOf field moveLine digits row cellFile recipeWith
+    recipeFile cellNames recipeNames numbered positionIn reported told printed Along mayDo acts actsOn howMany portFits isStep isSilentStep
+    stateAfter receiver handed placeAfter after serves matches standsAt present free carries putThere placed partsMoved afterCarry entryKind
+    letter unused lettersUsed isLine isFormed only stepOf mayBeTaken taken effect isMove opens leaves makes leadsTo cell.inRange cell.gap
+    cell.hasNoLine recipe.inRange recipe.hasUnused farthest stateWeight stateFits placeFits isSilent isFree lineVerdict
 computed =
     record {
       lines =

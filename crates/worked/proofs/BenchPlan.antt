@@ -12,7 +12,7 @@ use Rattle.refusals.specs.declared.Refusal.the-variants.{NotOpen}
 use Rattle.refusals.specs.declared.Verdict.the-variants.{Accepted}
 use Rattle.refusals.specs.Refusal.{numberOf}
 use Rattle.refusals.specs.Search.{firstBelow, anyBelow, allBelow, countBelow, greatestBelow, tabulate, isOf, every}
-use Rattle.refusals.specs.Verdict.{firstRefusal, firstLine, noLine, rule3}
+use Rattle.refusals.specs.Verdict.{firstRefusal, firstLine, noLine, rule3, lineVerdict}
 use Rattle.refusals.proofs.EveryBelow.{all-at}
 use Rattle.refusals.proofs.Verdicts.{and-left}
 use Rattle.cell.specs.declared.Cell.{Cell}
@@ -95,7 +95,7 @@ unfolding isOf firstBelow anyBelow allBelow countBelow greatestBelow tabulate fi
     benchTable benchRanks benchStages deadRecipe deadStages endRecipe mayDo acts actsOn howMany portFits isStep isSilentStep stateAfter
     receiver handed placeAfter after serves matches standsAt present free carries putThere placed partsMoved afterCarry entryKind letter
     unused lettersUsed isLine isFormed only stepOf mayBeTaken taken effect isMove opens leaves makes leadsTo cell.inRange cell.gap
-    cell.hasNoLine recipe.inRange recipe.hasUnused farthest stateFits placeFits isSilent isFree
+    cell.hasNoLine recipe.inRange recipe.hasUnused farthest stateFits placeFits isSilent isFree lineVerdict
 computed =
     record {
       sized = refl;

@@ -3,7 +3,7 @@
 use mathlib.Core.Path.{refl}
 use mathlib.Core.List.{List, [], _∷_}
 use Rattle.refusals.specs.Search.{firstBelow, anyBelow, allBelow, countBelow, greatestBelow, tabulate, isOf, every}
-use Rattle.refusals.specs.Verdict.{firstRefusal, firstLine, noLine, rule3, refusalIn, ifAccepted}
+use Rattle.refusals.specs.Verdict.{firstRefusal, firstLine, noLine, rule3, refusalIn, ifAccepted, lineVerdict}
 use Rattle.cell.specs.Rules as cell
 use Rattle.recipe.specs.Rules as recipe
 use Rattle.positions.specs.Radix.{sumBelow, productBelow}
@@ -35,13 +35,13 @@ unfolding isOf firstBelow anyBelow allBelow countBelow greatestBelow tabulate fi
     recipe.lacksParts recipe.rule10 recipe.holdsPart recipe.common recipe.sharesPart recipe.rule11 recipe.pointCount recipe.leadsOut
     recipe.rule12 recipe.recipeRules sumBelow productBelow stateCount stateCounts partsIn partCount jointCount sizesFor start stateNumber
     placeNumber positionOf recordRules rule13 rule14 placeCount isPosition rule16 firstLineOf linesOf kindOf thenOf elseOf isTaken isGiven
-    entryOf tableRules entryRules rule17 rule18 rule19 moveRules reportRules nextMove nextRun reportOf opened byTable atEnd isOpen refusalOf setTo
-    movedTo configurationAfter pointAfter made isAccepted turned noted answer moments answers issuedBy issued refusalIn runAfter runAnswer
-    runAnswers every agree rightly neverShut everyIssue wasOpen foundParts carriedPoint fewSilent filled benchCell benchRecipe benchEntry
-    benchTable mayDo acts actsOn howMany portFits isStep isSilentStep stateAfter receiver handed placeAfter after serves matches standsAt
-    present free carries putThere placed partsMoved afterCarry entryKind letter unused lettersUsed isLine isFormed only stepOf mayBeTaken
-    ifAccepted ofCarries taken effect isMove opens leaves makes leadsTo cell.inRange cell.gap cell.hasNoLine recipe.inRange recipe.hasUnused
-    farthest stateWeight stateFits placeFits isSilent isFree
+    entryOf tableRules entryRules rule17 rule18 rule19 moveRules reportRules nextMove nextRun reportOf opened byTable atEnd isOpen refusalOf
+    setTo movedTo configurationAfter pointAfter made isAccepted turned noted answer moments answers issuedBy issued refusalIn runAfter
+    runAnswer runAnswers every agree rightly neverShut everyIssue wasOpen foundParts carriedPoint fewSilent filled benchCell benchRecipe
+    benchEntry benchTable mayDo acts actsOn howMany portFits isStep isSilentStep stateAfter receiver handed placeAfter after serves matches
+    standsAt present free carries putThere placed partsMoved afterCarry entryKind letter unused lettersUsed isLine isFormed only stepOf
+    mayBeTaken ifAccepted ofCarries taken effect isMove opens leaves makes leadsTo cell.inRange cell.gap cell.hasNoLine recipe.inRange
+    recipe.hasUnused farthest stateWeight stateFits placeFits isSilent isFree lineVerdict
 followed =
     record {
       same-answers = λ told chain. chain-answers benchCell benchRecipe benchTable

@@ -3,7 +3,7 @@ use mathlib.Core.Path.{_≡_, refl}
 use Rattle.refusals.specs.declared.Verdict.the-variants.{Accepted, Refused}
 use Rattle.refusals.specs.declared.Refusal.the-variants.{NoPartner}
 use Rattle.refusals.specs.Search.{firstBelow, anyBelow, countBelow, greatestBelow, tabulate, isOf, every}
-use Rattle.refusals.specs.Verdict.{firstRefusal, firstLine, noLine, ifAccepted, rule3}
+use Rattle.refusals.specs.Verdict.{firstRefusal, firstLine, noLine, ifAccepted, rule3, lineVerdict}
 use Rattle.tables.specs.Lines.{lengthened, parted, lines, valueLines, shownLine, extent}
 use Rattle.tables.specs.Numbers.{isDigit, isNumber, decimal, isRow}
 use Rattle.tables.specs.Table.{starts, rule1, firstBroken, isBroken, rule2, numberAt, column}
@@ -36,7 +36,7 @@ unfolding isOf firstBelow anyBelow countBelow greatestBelow tabulate firstRefusa
     recipe.rule8 recipe.breaksUnused recipe.rule9 recipe.lacksParts recipe.rule10 recipe.holdsPart recipe.common recipe.sharesPart
     recipe.rule11 recipe.pointCount recipe.leadsOut recipe.rule12 recipe.recipeRules recipeNames recipeOf judgeRecipe readRecipe digits row
     rows cellFile recipeWith recipeFile deadFile endFile limitCellFile limitRecipeFile filled benchCell benchRecipe deadRecipe endRecipe
-    limitCell limitRecipe cell.inRange cell.gap cell.hasNoLine recipe.inRange recipe.hasUnused
+    limitCell limitRecipe cell.inRange cell.gap cell.hasNoLine recipe.inRange recipe.hasUnused lineVerdict
 files =
     record {
       cell-read = refl;

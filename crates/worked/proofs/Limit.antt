@@ -3,7 +3,7 @@ use mathlib.Core.Path.{_≡_, refl}
 use Rattle.refusals.specs.declared.Verdict.the-variants.{Accepted, Refused}
 use Rattle.refusals.specs.declared.Refusal.the-variants.{TooManyPositions}
 use Rattle.refusals.specs.Search.{firstBelow, anyBelow, countBelow, greatestBelow, tabulate, isOf}
-use Rattle.refusals.specs.Verdict.{firstRefusal, firstLine, noLine, rule3}
+use Rattle.refusals.specs.Verdict.{firstRefusal, firstLine, noLine, rule3, lineVerdict}
 use Rattle.cell.specs.Rules as cell
 use Rattle.recipe.specs.Rules as recipe
 use Rattle.positions.specs.Radix.{productBelow}
@@ -22,5 +22,5 @@ unfolding isOf firstBelow anyBelow countBelow greatestBelow tabulate firstRefusa
     recipe.breaksOrder recipe.rule7 recipe.clashes recipe.breaksRepeat recipe.rule8 recipe.breaksUnused recipe.rule9 recipe.lacksParts
     recipe.rule10 recipe.holdsPart recipe.common recipe.sharesPart recipe.rule11 recipe.pointCount recipe.leadsOut recipe.rule12
     recipe.recipeRules productBelow stateCount stateCounts partsIn partCount jointCount sizesFor recordRules rule13 checkSizes filled
-    limitCell limitRecipe cell.inRange cell.gap cell.hasNoLine recipe.inRange recipe.hasUnused farthest
+    limitCell limitRecipe cell.inRange cell.gap cell.hasNoLine recipe.inRange recipe.hasUnused farthest lineVerdict
 limit = record { reached = refl; four-pass = refl; fifth-state = refl }

@@ -7,7 +7,7 @@ use native.Mathlib.Omega.{arith}
 use lib.ListN.{length}
 use Rattle.refusals.specs.declared.Verdict.the-variants.{Accepted}
 use Rattle.refusals.specs.Search.{firstBelow, anyBelow, allBelow, countBelow, greatestBelow, tabulate, isOf, every}
-use Rattle.refusals.specs.Verdict.{firstRefusal, firstLine, noLine, rule3}
+use Rattle.refusals.specs.Verdict.{firstRefusal, firstLine, noLine, rule3, lineVerdict}
 use Rattle.cell.specs.Rules as cell
 use Rattle.recipe.specs.Rules as recipe
 use Rattle.positions.specs.declared.Sizes.{Sizes}
@@ -56,7 +56,7 @@ unfolding isOf firstBelow anyBelow allBelow countBelow greatestBelow tabulate fi
     laneRecipe shuttleTable madePart mayDo acts actsOn howMany portFits isStep isSilentStep stateAfter receiver handed placeAfter after
     serves matches standsAt present free carries putThere placed partsMoved afterCarry entryKind letter unused lettersUsed isLine isFormed
     only stepOf mayBeTaken taken effect isMove opens leaves makes leadsTo cell.inRange cell.gap cell.hasNoLine recipe.inRange
-    recipe.hasUnused farthest stateWeight stateFits placeFits isSilent isFree
+    recipe.hasUnused farthest stateWeight stateFits placeFits isSilent isFree lineVerdict
 computed = record { sized = refl; in-range = refl; six = refl; eight = refl; some = refl; many = refl }
 
 -- "shuttles a pallet for ever"

@@ -1,6 +1,6 @@
 use mathlib.Core.Path.{sym, _∙_}
 use Rattle.cell.specs.Rules.{cellRules, checkCell}
-use Rattle.cell.specs.Steps.{afterRange}
+use Rattle.cell.specs.Inner.{afterRange}
 use Rattle.refusals.proofs.Verdicts.{count-in-range}
 use Rattle.refusals.proofs.Rules.{refuses, accepts}
 use borrow.Author.Needs.{needs}

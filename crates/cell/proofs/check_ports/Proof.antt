@@ -3,7 +3,7 @@ use Rattle.refusals.specs.declared.Refusal.the-variants.{ResourceGap}
 use Rattle.refusals.proofs.Verdicts.{noLine-broken, noLine-kept, line}
 use Rattle.refusals.proofs.Rules.{refuses, accepts, decides}
 use Rattle.cell.specs.Rules.{hasNoLine, gap, rule5, rule6}
-use Rattle.cell.specs.Steps.{afterRange}
+use Rattle.cell.specs.Inner.{afterRange}
 use borrow.Author.Needs.{needs}
 use Rattle.cell.proofs.check_ports.Statement.{statement}
 use Rattle.cell.proofs.check_ports.Tie as tie

@@ -7,7 +7,7 @@ use Rattle.tables.proofs.NamesLine.{starts-named}
 use Rattle.tables.proofs.KeptNumbers.{whole, broken, breaks-is, broken-few}
 use Rattle.cell.specs.Rules.{checkCell}
 use Rattle.cell.specs.Reader.{cellNames, judgeCell, readCell}
-use Rattle.cell.specs.Steps.{reading}
+use Rattle.cell.specs.Inner.{reading}
 use borrow.Author.Needs.{needs}
 use Rattle.cell.proofs.read_cell.Statement.{statement}
 use Rattle.cell.proofs.read_cell.Tie as tie

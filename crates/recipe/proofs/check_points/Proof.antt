@@ -4,7 +4,7 @@ use Rattle.refusals.specs.declared.Verdict.{Verdict}
 use Rattle.refusals.proofs.Rules.{first-accepts, part-refuses, part-accepts}
 use Rattle.recipe.specs.declared.Recipe.{Recipe}
 use Rattle.recipe.specs.Rules.{rule7, rule8, rule9, rule10, rule11, rule12}
-use Rattle.recipe.specs.Steps.{afterRange}
+use Rattle.recipe.specs.Inner.{afterRange}
 use borrow.Author.Needs.{needs}
 use Rattle.recipe.proofs.check_points.Statement.{statement}
 use Rattle.recipe.proofs.check_points.Tie as tie

@@ -1,6 +1,6 @@
 use mathlib.Core.Path.{sym, _∙_}
 use Rattle.recipe.specs.Rules.{recipeRules, checkRecipe}
-use Rattle.recipe.specs.Steps.{afterRange}
+use Rattle.recipe.specs.Inner.{afterRange}
 use Rattle.refusals.proofs.Verdicts.{count-in-range}
 use Rattle.refusals.proofs.Rules.{refuses, accepts}
 use borrow.Author.Needs.{needs}

@@ -7,7 +7,7 @@ use Rattle.tables.proofs.NamesLine.{starts-named}
 use Rattle.tables.proofs.KeptNumbers.{whole, broken, breaks-is, broken-few}
 use Rattle.recipe.specs.Rules.{checkRecipe}
 use Rattle.recipe.specs.Reader.{recipeNames, judgeRecipe, readRecipe}
-use Rattle.recipe.specs.Steps.{reading}
+use Rattle.recipe.specs.Inner.{reading}
 use borrow.Author.Needs.{needs}
 use Rattle.recipe.proofs.read_recipe.Statement.{statement}
 use Rattle.recipe.proofs.read_recipe.Tie as tie

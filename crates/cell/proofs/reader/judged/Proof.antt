@@ -1,6 +1,6 @@
 use mathlib.Core.Path.{sym, _∙_}
 use Rattle.refusals.specs.Verdict.{ifAccepted}
-use Rattle.cell.specs.Steps.{reading}
+use Rattle.cell.specs.Inner.{reading}
 use borrow.Author.Needs.{needs}
 use Rattle.cell.proofs.reader.judged.Statement.{statement}
 use Rattle.cell.proofs.reader.judged.Tie as tie

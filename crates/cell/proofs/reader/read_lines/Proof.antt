@@ -4,7 +4,7 @@ use Rattle.refusals.specs.Verdict.{firstRefusal, rule3, ifAccepted}
 use Rattle.refusals.proofs.Verdicts.{count-in-range}
 use Rattle.cell.specs.Rules.{cellRules, checkCell}
 use Rattle.cell.specs.Reader.{cellOf}
-use Rattle.cell.specs.Steps.{reading, afterRange}
+use Rattle.cell.specs.Inner.{reading, afterRange}
 use borrow.Author.Needs.{needs}
 use Rattle.cell.proofs.reader.read_lines.Statement.{statement}
 use Rattle.cell.proofs.reader.read_lines.Tie as tie

@@ -1,6 +1,6 @@
 use mathlib.Core.Path.{refl}
 use Rattle.refusals.specs.Verdict.{ifAccepted}
-use Rattle.cell.specs.Steps.{reading}
+use Rattle.cell.specs.Inner.{reading}
 use Rattle.cell.proofs.reader.refused.Statement.{statement}
 use Rattle.cell.proofs.reader.refused.Tie as tie
 

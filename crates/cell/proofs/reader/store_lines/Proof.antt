@@ -3,7 +3,7 @@ use Rattle.refusals.specs.declared.Verdict.{Verdict}
 use Rattle.refusals.specs.Verdict.{firstRefusal}
 use Rattle.cell.specs.declared.Cell.{Cell}
 use Rattle.cell.specs.Reader.{cellOf}
-use Rattle.cell.specs.Steps.{reading, afterRange}
+use Rattle.cell.specs.Inner.{reading, afterRange}
 use Rattle.cell.proofs.RecordFields.{stored-out, stored-cell, stored-fine}
 use borrow.Author.Needs.{needs}
 use Rattle.cell.proofs.reader.store_lines.Statement.{statement}

@@ -3,7 +3,7 @@ use Prim.Native.Nat.{_≤_, _-_}
 use native.Mathlib.Omega.{arith}
 use Rattle.refusals.specs.Search.{firstBelow}
 use Rattle.refusals.proofs.Scan.{first-more, first-hit, first-end}
-use Rattle.recipe.specs.Steps.{breaksParts}
+use Rattle.recipe.specs.Inner.{breaksParts}
 use Rattle.recipe.proofs.fields.first_without_parts.Statement.{statement}
 use Rattle.recipe.proofs.fields.first_without_parts.Tie as tie
 

@@ -5,7 +5,7 @@ use native.Mathlib.Omega.{arith}
 use Rattle.refusals.specs.Search.{firstBelow}
 use Rattle.refusals.proofs.Scan.{first-more, first-hit}
 use Rattle.refusals.proofs.Scan.{first-end}
-use Rattle.recipe.specs.Steps.{breaksCommon}
+use Rattle.recipe.specs.Inner.{breaksCommon}
 use Rattle.recipe.proofs.parts.first_common.Statement.{statement}
 use Rattle.recipe.proofs.parts.first_common.Tie as tie
 

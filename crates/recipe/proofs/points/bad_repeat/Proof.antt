@@ -6,7 +6,7 @@ use Rattle.refusals.specs.Search.{anyBelow, countBelow}
 use Rattle.refusals.proofs.Scan.{any-more, any-hit, any-end}
 use lib.Dec.{leb}
 use Rattle.recipe.specs.Rules.{breaksRepeat, clashes}
-use Rattle.recipe.specs.Steps.{samePoint}
+use Rattle.recipe.specs.Inner.{samePoint}
 use Rattle.recipe.proofs.PointOrder.{none-clashes, clashes-at, rest-same}
 use Rattle.recipe.proofs.points.bad_repeat.Statement.{statement}
 use Rattle.recipe.proofs.points.bad_repeat.Tie as tie

@@ -1,6 +1,6 @@
 use mathlib.Core.Path.{sym, _∙_}
 use Rattle.refusals.specs.Verdict.{ifAccepted}
-use Rattle.recipe.specs.Steps.{reading}
+use Rattle.recipe.specs.Inner.{reading}
 use borrow.Author.Needs.{needs}
 use Rattle.recipe.proofs.reader.judged.Statement.{statement}
 use Rattle.recipe.proofs.reader.judged.Tie as tie

@@ -4,7 +4,7 @@ use Rattle.refusals.specs.Verdict.{firstRefusal, rule3, ifAccepted}
 use Rattle.refusals.proofs.Verdicts.{count-in-range}
 use Rattle.recipe.specs.Rules.{recipeRules, checkRecipe}
 use Rattle.recipe.specs.Reader.{recipeOf}
-use Rattle.recipe.specs.Steps.{reading, afterRange}
+use Rattle.recipe.specs.Inner.{reading, afterRange}
 use borrow.Author.Needs.{needs}
 use Rattle.recipe.proofs.reader.read_lines.Statement.{statement}
 use Rattle.recipe.proofs.reader.read_lines.Tie as tie

@@ -1,6 +1,6 @@
 use mathlib.Core.Path.{refl}
 use Rattle.refusals.specs.Verdict.{ifAccepted}
-use Rattle.recipe.specs.Steps.{reading}
+use Rattle.recipe.specs.Inner.{reading}
 use Rattle.recipe.proofs.reader.refused.Statement.{statement}
 use Rattle.recipe.proofs.reader.refused.Tie as tie
 

@@ -4,7 +4,7 @@ use Rattle.refusals.specs.declared.Verdict.{Verdict}
 use Rattle.refusals.specs.Verdict.{firstRefusal}
 use Rattle.recipe.specs.declared.Recipe.{Recipe}
 use Rattle.recipe.specs.Reader.{recipeOf}
-use Rattle.recipe.specs.Steps.{reading, afterRange}
+use Rattle.recipe.specs.Inner.{reading, afterRange}
 use Rattle.recipe.proofs.RecordFields.{stored-out, stored-recipe, stored-fine}
 use borrow.Author.Needs.{needs}
 use Rattle.recipe.proofs.reader.store_lines.Statement.{statement}

@@ -3,7 +3,7 @@ use mathlib.Core.Path.{_≡_, refl, sym, _∙_}
 use Prim.Native.Nat.{_≤_, _-_}
 use Rattle.refusals.specs.Search.{firstBelow}
 use Rattle.refusals.proofs.Scan.{first-more, first-hit, first-end}
-use Rattle.recipe.specs.Steps.{breaksTarget}
+use Rattle.recipe.specs.Inner.{breaksTarget}
 use Rattle.recipe.proofs.targets.first_leading_out.Statement.{statement}
 use Rattle.recipe.proofs.targets.first_leading_out.Tie as tie
 

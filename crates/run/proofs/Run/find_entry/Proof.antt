@@ -11,7 +11,7 @@ use Rattle.positions.specs.Sizes.{sizesOf}
 use Rattle.positions.specs.Rules.{recordRules, checkRecords}
 use Rattle.positions.proofs.AcceptedRecords.{both-ok}
 use Rattle.run.specs.Calls.{tableRules, entryRules}
-use Rattle.run.specs.Steps.{findEntry}
+use Rattle.run.specs.Inner.{findEntry}
 use Rattle.run.proofs.AcceptedRun.{in-position, table-long}
 use Rattle.run.proofs.Answers.{move-refused, move-accepted}
 use borrow.Author.Needs.{needs}

@@ -1,4 +1,4 @@
--- What the code's own steps try and answer. Only their contracts cite it; what a call returns is defined without it. Assumes nothing.
+-- What the inner functions answer. Only their contracts cite it; what a call returns is defined without it. Assumes nothing.
 use mathlib.Core.List.{List}
 use Prim.Native.Nat.{ℕ}
 use Rattle.refusals.specs.declared.Verdict.{Verdict}

@@ -3,9 +3,9 @@ use Prim.Native.Nat.{_-_, _+_, _≤_}
 use native.Mathlib.Omega.{arith}
 use lib.ListN.{length, take}
 use lib.Seq.{sets, length-sets}
-use Rattle.capi.proofs.ByteRows.{stored-next, stored-all}
-use Rattle.capi.proofs.put.put.Statement.{statement}
-use Rattle.capi.proofs.put.put.Tie as tie
+use Rattle.buffers.proofs.StoredBytes.{stored-next, stored-all}
+use Rattle.buffers.proofs.put.Statement.{statement}
+use Rattle.buffers.proofs.put.Tie as tie
 
 abbrev Inv-loop : tie.InvT-loop
 Inv-loop buffer₀ at bytes i₀ buffer i = (i ≤ length bytes) × (at + length bytes ≤ length buffer₀) × (buffer ≡ sets buffer₀ at (take i bytes))
