@@ -1,6 +1,6 @@
 /*
- * The cell planner's C interface: the readers of the cell file and the recipe file, the planner, and the
- * run over a table.
+ * The cell planner's C interface: the readers of the cell file, the limits file and the recipe file, the
+ * planner, and the run over a table.
  *
  * A slice of bytes is passed as a pointer and a length in bytes, a table as a pointer and its number of
  * entries (elements, not bytes). No pointer may be NULL, also where the length is 0. What a call may
@@ -9,11 +9,14 @@
  * from several threads need no lock as long as none writes what another one uses.
  *
  * A cell record has CELLPLAN_CELL_BYTES bytes: byte 0 is the line count, then follow 64 times
- *     resource, from, act, arg, to.
+ *     resource, from, act, arg, to,
+ * and behind them the limits of the resources 0 to 5: the most parts, 1 to 8, that each may hold. A limit
+ * of 8 forbids nothing, and a resource that isn't there has 8.
  * A recipe record has CELLPLAN_RECIPE_BYTES bytes: byte 0 is the line count, then follow 64 times
  *     point, kind, op, takes, gives, then, else.
- * Lines stand in file order, one byte a field. A reader leaves 0 in all bytes past the line count; in a
- * record handed in they count for nothing.
+ * Lines stand in file order, one byte a field. The readers of cells and recipes leave 0 in all lines past
+ * the line count; in a record handed in these count for nothing. The reader of cells leaves 8 in each
+ * limit.
  *
  * A run has CELLPLAN_RUN_BYTES bytes: the point, the states of the resources 0 to 5, the places of the
  * parts 0 to 7. A place is 0 outside the cell and k + 1 at resource k. Resources and parts that aren't
@@ -38,16 +41,20 @@
  * A reader's result is 0 if the file is accepted, else
  *     refusal + 256 * line.
  * The line counts from 1, the names line being line 1, so that value line n, counted from 0, is line
- * n + 2. It is 0 where the refusal names no line. A line of 2^56 or more is given modulo 2^56.
+ * n + 2. It is 0 where the refusal names no line, and where it is one of the cell record that read_limits
+ * is handed. A line of 2^56 or more is given modulo 2^56.
  *
  * Refusals, in the order in which they are tried. Each is tried over the whole file before the next;
  * the line is the first that breaks the rule, and of a pair the later one.
  *      1  The names line differs or lacks byte 10.
  *      2  A value line has another count of numbers, another form or no byte 10.
  *      3  There are no value lines, or over 64. (No line is named.)
- *      4  A number leaves its range.
+ *      4  A number leaves its range. In a cell record: first one of its lines, then one of its limits.
+ *         (A record's limit names no line.)
  *      5  Cell: a resource below the greatest has no line. (No line is named.)
  *      6  Cell: for an in or out line, no line of another resource has the other act on that port.
+ *     20  Limits: a resource isn't below R, or isn't greater than that of the line before. In a cell
+ *         record: a limit at or above R isn't 8. (A record's limit names no line.)
  *      7  Recipe: the first point isn't 0, or a point is neither its predecessor's nor one more.
  *      8  Recipe: a repeated point isn't kind 1 on both lines, differs in `then`, or comes a fifth
  *         time.
@@ -57,18 +64,22 @@
  *     12  Recipe: a do's `then` or a test's `then` or `else` is N or more, N being the number of
  *         points.
  *     13  M exceeds CELLPLAN_MOST_POSITIONS.
- *     14  The table has fewer than M entries, or the planner's scratch fewer than M bytes. Of a reader
- *         and of fresh: the buffer lent for the record or the run is too short. That is tried before
- *         all else, names no line, and leaves the buffer as it was.
- *     15  Planner: the cell cannot build the recipe. The table is filled all the same.
+ *     14  The table has fewer than M entries, or the planner's scratch fewer than M bytes. Of
+ *         read_cell, read_recipe and fresh: the buffer lent for the record or the run is too short.
+ *         That is tried before all else, names no line, and leaves the buffer as it was.
+ *     15  Planner: the cell cannot build the recipe so that no resource ever holds more parts than its
+ *         limit. The table is filled all the same.
  *     16  Run: a point of N or more, a state or place outside its count, or a number other than 0 for a
  *         resource or part that isn't there.
  *     17  Report: the outcome is above 1.
- *     18  Run: the entry isn't a move open here, 0 included, or not in the stated form.
+ *     18  Run: the entry isn't a move open here, 0 included, or not in the stated form. A move of kind
+ *         1, 2 or 3 is open only if no resource holds more parts than its limit after it; what one held
+ *         before doesn't matter.
  *     19  Report: the run is at an end.
  * A call that is handed records tries the cell's rules from 3 on, then the recipe's from 3 on, then
- * those from 13 on that are its own. A call that refuses changes nothing, but for a reader, which writes
- * its record, and for the planner where it refuses with 15.
+ * those from 13 on that are its own; read_limits tries the cell's from 3 on, and then its file's from 1
+ * on. A call that refuses changes nothing, but for read_cell and read_recipe, which write a record of no
+ * lines, and for the planner where it refuses with 15.
  */
 #ifndef CELLPLAN_H
 #define CELLPLAN_H
@@ -80,7 +91,7 @@
 extern "C" {
 #endif
 
-#define CELLPLAN_CELL_BYTES 321
+#define CELLPLAN_CELL_BYTES 327
 #define CELLPLAN_RECIPE_BYTES 449
 #define CELLPLAN_RUN_BYTES 15
 
@@ -105,34 +116,47 @@ extern "C" {
 
 /*
  * Reads a cell file into a record. The record's bytes are written, refused or not: a refused file gives
- * a record of no lines, all bytes 0. Bytes of a longer buffer past the record stay as they were.
+ * a record of no lines, all bytes 0 but for the limits. These are 8, accepted or refused. Bytes of a
+ * longer buffer past the record stay as they were.
  */
 uint64_t cellplan_read_cell(const uint8_t *file, size_t file_length,
                             uint8_t *record, size_t record_length);
 
-/* The same for a recipe file. */
+/* The same for a recipe file, whose record has no limits: a refused file gives all bytes 0. */
 uint64_t cellplan_read_recipe(const uint8_t *file, size_t file_length,
                               uint8_t *record, size_t record_length);
 
 /*
+ * Reads a limits file into a cell record. The file's first line is exactly `resource,most`; then come 1
+ * to 64 value lines in the form of the other files, with a resource, 0 to 5, and the most parts that it
+ * may hold, 1 to 8. The lines rise by resource, and each resource is one of the cell's. The record is
+ * checked first, by the rules of a cell record handed in; one that is too short gets 3. Accepted, each
+ * resource with a line gets that line's limit and every other one 8, whatever they had before; nothing
+ * but the six limits changes. Refused, nothing changes.
+ */
+uint64_t cellplan_read_limits(const uint8_t *file, size_t file_length,
+                              uint8_t *cell, size_t cell_length);
+
+/*
  * Where value line n, counted from 0, starts in the file, and how long it is without its byte 10. The
- * file may be of either kind, accepted or not; its first line is never a value line, and only byte 10
+ * file may be of any kind, accepted or not; its first line is never a value line, and only byte 10
  * ends a line. An empty line has its true start and length 0. Where there is no such line, both are 0.
  */
 size_t cellplan_line_start(const uint8_t *file, size_t file_length, size_t n);
 size_t cellplan_line_length(const uint8_t *file, size_t file_length, size_t n);
 
 /*
- * Checks a cell record and a recipe record: the result is the first refusal of the rules 3 to 13, or 0.
- * Which line breaks a rule is not said; a reader says that of the file.
+ * Checks a cell record and a recipe record: the result is the first refusal of the rules 3 to 13, 20 in
+ * its place among them, or 0. Which line breaks a rule is not said; a reader says that of the file.
  */
 uint32_t cellplan_check(const uint8_t *cell, size_t cell_length,
                         const uint8_t *recipe, size_t recipe_length);
 
 /*
  * Plans: fills the first M entries of the table. An entry is other than 0 exactly at the positions from
- * which the recipe can be followed to an end, or for ever, whatever the outcomes of its tests; it is then
- * the move to make there. The result is 0, or the refusal, of which those from 13 on are tried in the
+ * which the recipe can be followed to an end, or for ever, whatever the outcomes of its tests, while no
+ * resource ever holds more parts than its limit, at the position itself and at an end too; it is then the
+ * move to make there. The result is 0, or the refusal, of which those from 13 on are tried in the
  * order 13, 14, 15; it is 15 if position 0 has entry 0. Accepted, and refused with 15, the entries past M
  * keep their content, and what the scratch then holds is free; refused otherwise, both stay as they were.
  */

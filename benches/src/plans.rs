@@ -111,7 +111,6 @@ pub fn measure_all() {
         "library", "plain Rust", "independent"
     );
     println!(" {:>6} {:>6}", "ratio", "ratio");
-    let mixed = |lines, silent, seed| mixed_pair(lines, silent, &mut Random(seed));
     for (name, pair) in [
         ("bench example", bench_pair()),
         ("29 lines, 14 silent moves", mixed(29, 14, 6)),
@@ -121,11 +120,32 @@ pub fn measure_all() {
     ] {
         Case::new(name, pair, LEAST_ROUNDS).measure();
     }
+    for (name, pair, limits) in limited_pairs() {
+        Case::new(name, with_limits(pair, limits), LEAST_ROUNDS).measure();
+    }
     for stations in [3, 4] {
         let name = format!("odometer of {stations} stations");
         let pair = odometer_pair(stations);
         Case::new(&name, pair, LEAST_ODOMETER_ROUNDS).measure();
     }
+}
+
+fn mixed(lines: usize, silent_moves: usize, seed: u64) -> (Cell, Recipe) {
+    mixed_pair(lines, silent_moves, &mut Random(seed))
+}
+
+/// Two of the pairs, with limits that forbid many positions and leave a way from the start.
+fn limited_pairs() -> [(&'static str, (Cell, Recipe), [u8; 3]); 2] {
+    [
+        ("29 lines, limits 3, 3, 1", mixed(29, 14, 6), [3, 3, 1]),
+        ("dense, limits 2, 8, 2", dense_pair(), [2, 8, 2]),
+    ]
+}
+
+/// The pair with these limits at its three stations.
+fn with_limits((mut cell, recipe): (Cell, Recipe), limits: [u8; 3]) -> (Cell, Recipe) {
+    cell.limits[..3].copy_from_slice(&limits);
+    (cell, recipe)
 }
 
 fn bench_pair() -> (Cell, Recipe) {
@@ -134,4 +154,25 @@ fn bench_pair() -> (Cell, Recipe) {
     assert_eq!(CellFile::library(BENCH_CELL, &mut cell), 0);
     assert_eq!(RecipeFile::library(BENCH_RECIPE, &mut recipe), 0);
     (cell_of_bytes(&cell), recipe_of_bytes(&recipe))
+}
+
+#[cfg(test)]
+mod tests {
+    use super::*;
+
+    /// How many positions have an entry in the plan for a pair, which must be accepted.
+    fn planned_positions(pair: (Cell, Recipe)) -> usize {
+        let mut case = Case::new("", pair, 0);
+        let (refusal, table) = case.planned(plain::plan);
+        assert_eq!(refusal, 0);
+        table.iter().filter(|&&entry| entry != 0).count()
+    }
+
+    #[test]
+    fn limits_forbid_many_positions_and_leave_a_way() {
+        for (name, pair, limits) in limited_pairs() {
+            let limited = planned_positions(with_limits(pair.clone(), limits));
+            assert!(4 * limited < 3 * planned_positions(pair), "{name}");
+        }
+    }
 }

@@ -1,11 +1,14 @@
-//! The readers of the cell and recipe files. The independent program's record is turned into the same
-//! bytes.
+//! The readers of the cell, recipe and limits files. The independent program's record is turned into the
+//! same bytes.
 
 use crate::best_times;
 use against::generate::{longest_cell, longest_recipe, overlong_cell};
-use against::{CellFile, Format, RecipeFile};
+use against::{CellFile, Format, LimitsFile, RecipeFile};
 use std::hint::black_box;
 use std::time::{Duration, Instant};
+
+/// The longest limits file that is accepted.
+const LIMITS: &[u8] = b"resource,most\n0,1\n1,2\n2,3\n3,4\n4,5\n5,6\n";
 
 type Reader = fn(&[u8], &mut [u8]) -> u64;
 
@@ -14,28 +17,43 @@ pub fn measure_all() {
         "{:<44} {:>9} {:>9} {:>12} {:>12} {:>6}",
         "file", "bytes", "answer", "library", "independent", "ratio"
     );
-    measure::<CellFile>("longest accepted cell, 64 lines", &longest_cell());
-    measure::<CellFile>(
+    measure_format::<CellFile>("longest accepted cell, 64 lines", &longest_cell());
+    measure_format::<CellFile>(
         "cell of good form, over 64 lines, 8 KB",
         &overlong_cell(8 << 10),
     );
-    measure::<CellFile>(
+    measure_format::<CellFile>(
         "cell of good form, over 64 lines, 64 MB",
         &overlong_cell(64 << 20),
     );
-    measure::<RecipeFile>("longest accepted recipe, 64 lines", &longest_recipe());
+    measure_format::<RecipeFile>("longest accepted recipe, 64 lines", &longest_recipe());
+    measure_limits();
+}
+
+/// Measures a file of which the reader makes a record.
+fn measure_format<F: Format>(name: &str, file: &[u8]) {
+    let record = vec![0; F::RECORD_BYTES];
+    measure(name, [F::library, F::independent], file, record);
+}
+
+/// Measures the limits file over the record of the longest cell, all of whose rules the reader tries first.
+fn measure_limits() {
+    let mut cell = vec![0; CellFile::RECORD_BYTES];
+    assert_eq!(CellFile::library(&longest_cell(), &mut cell), 0);
+    let name = "limits of six stations, 64-line cell";
+    let readers = [LimitsFile::library, LimitsFile::independent];
+    measure(name, readers, LIMITS, cell);
 }
 
 /// Prints one line: the file, both readers' answer to it, and each one's time for a byte of it.
-fn measure<F: Format>(name: &str, file: &[u8]) {
-    let mut record = vec![0; F::RECORD_BYTES];
-    let answer = F::library(file, &mut record);
-    assert_eq!(answer, F::independent(file, &mut record), "{name}");
-
+fn measure(name: &str, [library, independent]: [Reader; 2], file: &[u8], mut record: Vec<u8>) {
+    let answer = library(file, &mut record);
     let mut other = record.clone();
+    assert_eq!(answer, independent(file, &mut other), "{name}");
+
     let [library, independent] = best_times([
-        &mut |calls| time(F::library, calls, file, &mut record),
-        &mut |calls| time(F::independent, calls, file, &mut other),
+        &mut |calls| time(library, calls, file, &mut record),
+        &mut |calls| time(independent, calls, file, &mut other),
     ])
     .map(|call| call / file.len() as f64);
     let answer = match answer % 256 {

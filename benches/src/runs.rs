@@ -111,6 +111,7 @@ pub fn measure_all() {
     for case in full_cases() {
         case.measure();
     }
+    limited_case().measure();
 }
 
 /// The bench example at the positions 0, 22 and 26.
@@ -151,20 +152,36 @@ fn short_case() -> Case {
     )
 }
 
-/// A cell of 64 lines with a recipe of 64 lines, at the last point, with part n at station n.
+/// At the last point of the full pair, with part n at station n; and the carry that is open there.
+const FULL_RUN: [u8; 15] = [15, 0, 0, 0, 0, 0, 0, 1, 2, 3, 4, 0, 0, 0, 0];
+const FULL_CARRY: [usize; 4] = [36, 37, 38, 39];
+
+/// A cell of 64 lines with a recipe of 64 lines.
 fn full_cases() -> [Case; 3] {
     let pair = full_pair();
     let (cell, recipe) = (pair.cell_bytes(), pair.recipe_bytes());
-    let run = [15, 0, 0, 0, 0, 0, 0, 1, 2, 3, 4, 0, 0, 0, 0];
-    let mut before_out = run;
+    let mut before_out = FULL_RUN;
     before_out[1] = 1;
     [
-        ("internal", run, INTERNAL, [48, 0, 0, 0]),
+        ("internal", FULL_RUN, INTERNAL, [48, 0, 0, 0]),
         ("transfer", before_out, TRANSFER, [28, 25, 0, 0]),
-        ("do of four lines", run, CARRY, [36, 37, 38, 39]),
+        ("do of four lines", FULL_RUN, CARRY, FULL_CARRY),
     ]
     .map(|(name, run, kind, letters)| {
         let name = format!("64-line cell, 64-line recipe, {name}");
         Case::new(&name, &cell, &recipe, run, entry_of(kind, letters))
     })
+}
+
+/// The same cell, of whose four stations each may hold one part, as many as it has before the do and after.
+fn limited_case() -> Case {
+    let mut pair = full_pair();
+    pair.limits[..4].fill(1);
+    Case::new(
+        "64-line cell with limits, do of four lines",
+        &pair.cell_bytes(),
+        &pair.recipe_bytes(),
+        FULL_RUN,
+        entry_of(CARRY, FULL_CARRY),
+    )
 }

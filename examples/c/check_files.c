@@ -1,9 +1,11 @@
 /*
- * Reads a cell file and a recipe file and says of each whether it is accepted.
+ * Reads a cell file, a recipe file and, if there is one, a file of the most parts that stations may
+ * hold, and says of each whether it is accepted.
  *
- *     check_files CELL RECIPE
+ *     check_files CELL RECIPE [LIMITS]
  *
- * A missing file counts as empty. The exit status is 0 if both files are accepted, else 1.
+ * A missing file counts as empty. Limits are those of the cell, and aren't judged if it is refused. The
+ * exit status is 0 if all files are accepted, else 1.
  */
 #include <errno.h>
 #include <stdint.h>
@@ -12,6 +14,12 @@
 #include <string.h>
 
 #include "cellplan.h"
+
+/* A cell record ends with the limits of so many stations. */
+#define STATIONS 6
+
+/* No recipe has more parts, so that a station with this limit may hold all. */
+#define PARTS 8
 
 struct file {
     uint8_t *bytes; /* never NULL, also where the length is 0 */
@@ -73,7 +81,7 @@ static void print_line(const uint8_t *line, size_t length)
         putchar(line[i] >= 0x20 && line[i] < 0x7f ? line[i] : '?');
 }
 
-/* Prints the verdict on one file and gives whether it is accepted. */
+/* Prints the verdict on one file, without its line's end, and gives whether it is accepted. */
 static int check(const char *path, reader *read, uint8_t *record, size_t record_length)
 {
     struct file file = read_whole(path);
@@ -82,7 +90,7 @@ static int check(const char *path, reader *read, uint8_t *record, size_t record_
 
     printf("%s: ", base_name(path));
     if (result == 0) {
-        printf("accepted, %u %s", record[0], record[0] == 1 ? "line" : "lines");
+        printf("accepted");
     } else {
         printf("refused %u", CELLPLAN_REFUSAL(result));
         if (line > 0)
@@ -95,22 +103,58 @@ static int check(const char *path, reader *read, uint8_t *record, size_t record_
                 print_line(file.bytes + start, length);
         }
     }
-    putchar('\n');
     free(file.bytes);
     return result == 0;
+}
+
+/* Checks a file that becomes a record of its own. */
+static int check_lines(const char *path, reader *read, uint8_t *record, size_t record_length)
+{
+    int accepted = check(path, read, record, record_length);
+
+    if (accepted)
+        printf(", %u %s", record[0], record[0] == 1 ? "line" : "lines");
+    putchar('\n');
+    return accepted;
+}
+
+/* Prints the limits of a cell, but for those that let all parts be at one station. */
+static void print_limits(const uint8_t *cell)
+{
+    const uint8_t *limits = cell + CELLPLAN_CELL_BYTES - STATIONS;
+    unsigned k;
+
+    for (k = 0; k < STATIONS; k++)
+        if (limits[k] < PARTS)
+            printf(", at most %u at station %u", limits[k], k);
+}
+
+/* Checks a file of limits, which become part of the cell's record. */
+static int check_limits(const char *path, uint8_t *cell, size_t cell_length)
+{
+    int accepted = check(path, cellplan_read_limits, cell, cell_length);
+
+    if (accepted)
+        print_limits(cell);
+    putchar('\n');
+    return accepted;
 }
 
 int main(int argc, char **argv)
 {
     uint8_t cell[CELLPLAN_CELL_BYTES];
     uint8_t recipe[CELLPLAN_RECIPE_BYTES];
-    int cell_accepted, recipe_accepted;
+    int cell_accepted, recipe_accepted, limits_accepted = 1;
 
-    if (argc != 3) {
-        fprintf(stderr, "usage: check_files CELL RECIPE\n");
+    if (argc != 3 && argc != 4) {
+        fprintf(stderr, "usage: check_files CELL RECIPE [LIMITS]\n");
         return EXIT_FAILURE;
     }
-    cell_accepted = check(argv[1], cellplan_read_cell, cell, sizeof cell);
-    recipe_accepted = check(argv[2], cellplan_read_recipe, recipe, sizeof recipe);
-    return cell_accepted && recipe_accepted ? EXIT_SUCCESS : EXIT_FAILURE;
+    cell_accepted = check_lines(argv[1], cellplan_read_cell, cell, sizeof cell);
+    recipe_accepted = check_lines(argv[2], cellplan_read_recipe, recipe, sizeof recipe);
+    if (argc == 4 && cell_accepted)
+        limits_accepted = check_limits(argv[3], cell, sizeof cell);
+    else if (argc == 4)
+        printf("%s: not judged, as the cell is refused\n", base_name(argv[3]));
+    return cell_accepted && recipe_accepted && limits_accepted ? EXIT_SUCCESS : EXIT_FAILURE;
 }

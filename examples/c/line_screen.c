@@ -2,13 +2,15 @@
  * A line screen: reads a cell file and a recipe file, plans, and follows the plan from a fresh run. Each
  * move is printed in words, and after each report where the parts are then.
  *
- *     line_screen CELL RECIPE [OUTCOME ..]
+ *     line_screen [-l LIMITS] CELL RECIPE [OUTCOME ..]
  *
- * Each OUTCOME, as 0 or 1, is that of one report. The exit status is 0, or 1 if something is refused.
+ * LIMITS is a file of the most parts that stations may hold; one that isn't in it may hold all. Each
+ * OUTCOME, as 0 or 1, is that of one report. The exit status is 0, or 1 if something is refused.
  */
 #include <stdint.h>
 #include <stdio.h>
 #include <stdlib.h>
+#include <string.h>
 
 #include "cellplan.h"
 
@@ -88,6 +90,14 @@ static void read_record(const char *what, const char *path, reader *read,
     result = read(bytes, length, record, record_length);
     if (result != 0)
         refuse_file(what, result, bytes, length);
+}
+
+/* The limits, if there is a file of them, become part of the cell's record. */
+static void read_cell(struct screen *screen, const char *path, const char *limits)
+{
+    read_record("cell", path, cellplan_read_cell, screen->cell, sizeof screen->cell);
+    if (limits != NULL)
+        read_record("limits", limits, cellplan_read_limits, screen->cell, sizeof screen->cell);
 }
 
 /* Plans with as many places as a plan can need. */
@@ -251,19 +261,24 @@ static void report(struct screen *screen, uint32_t entry, uint8_t outcome)
 int main(int argc, char **argv)
 {
     struct screen screen;
+    const char *limits = NULL;
     uint32_t entry;
-    int n;
+    int n = 1;
 
-    if (argc < 3) {
-        fprintf(stderr, "usage: line_screen CELL RECIPE [OUTCOME ..]\n");
+    if (argc > 2 && strcmp(argv[1], "-l") == 0) {
+        limits = argv[2];
+        n = 3;
+    }
+    if (argc < n + 2) {
+        fprintf(stderr, "usage: line_screen [-l LIMITS] CELL RECIPE [OUTCOME ..]\n");
         return EXIT_FAILURE;
     }
-    read_record("cell", argv[1], cellplan_read_cell, screen.cell, sizeof screen.cell);
-    read_record("recipe", argv[2], cellplan_read_recipe, screen.recipe, sizeof screen.recipe);
+    read_cell(&screen, argv[n], limits);
+    read_record("recipe", argv[n + 1], cellplan_read_recipe, screen.recipe, sizeof screen.recipe);
     plan(&screen);
     cellplan_fresh((uint8_t *)&screen.run, sizeof screen.run);
     entry = show_move(&screen);
-    for (n = 3; n < argc; n++) {
+    for (n += 2; n < argc; n++) {
         report(&screen, entry, outcome_of(argv[n]));
         entry = show_move(&screen);
     }

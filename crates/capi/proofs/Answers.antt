@@ -1,20 +1,28 @@
--- The two answers of a call that writes: the lent buffer is too short, or it holds the record or the run; and the plan call's.
+-- The two answers of a call that writes: the lent buffer is too short, or it holds the record, its limits or the run; and the
+-- plan call's.
 -- Assumes nothing.
-use mathlib.Core.Path.{_≡_, ap, _∙_, subst}
+use mathlib.Core.Path.{_≡_, refl, sym, ap, _∙_, subst}
 use mathlib.Core.List.{List, _++_}
-use Prim.Native.Nat.{ℕ, _<_, _≤_}
-use lib.ListN.{length, drop}
+use Prim.Native.Nat.{ℕ, _+_, _<_, _≤_}
+use native.Mathlib.Omega.{arith}
+use lib.ListN.{length, getD, take, drop}
+use lib.Seq.{sets, sets-eq}
 use borrow.Author.Tests.{lt-ltb, le-ltb}
 use Rattle.refusals.specs.Refusal.{numberOf}
 use Rattle.refusals.specs.declared.Refusal.the-variants.{TooShort}
 use Rattle.refusals.specs.declared.Verdict.{Verdict}
 use Rattle.refusals.specs.Verdict.{refusalIn}
+use Rattle.refusals.proofs.TabulatedLists.{tabulate-is}
 use Rattle.cell.specs.declared.Cell.{Cell}
+use Rattle.cell.specs.declared.CellReading.{CellReading}
+use Rattle.limits.specs.Reader.{readLimits}
 use Rattle.recipe.specs.declared.Recipe.{Recipe}
 use Rattle.run.specs.declared.Report.{Report}
 use Rattle.planner.specs.Call.{PlanCall}
-use Rattle.capi.specs.Encoding.{codeOf, runBytes}
-use Rattle.capi.specs.Answer.{BufferAnswered, Reported, PlanAnswered}
+use Rattle.capi.specs.Encoding.{codeOf, cellBytes, cellFrom, runBytes}
+use Rattle.capi.specs.Answer.{BufferAnswered, LimitsAnswered, Reported, PlanAnswered}
+use Rattle.capi.proofs.BytesRoundTrip.{limitedTo, cell-lines-back}
+use Rattle.capi.proofs.LimitsInBytes.{only-limits}
 
 module _ (verdict : Verdict) (bytes : List ℕ) (size : ℕ) (entry : List ℕ) where
   pub too-short : (answer : ℕ) → length entry < size → answer ≡ numberOf TooShort → BufferAnswered verdict bytes size entry entry answer
@@ -35,6 +43,36 @@ module _ (report answer : Report) (entry : List ℕ) (refusal : ℕ) (same : ans
   pub report-put : (exit : List ℕ) → 15 ≤ length entry → exit ≡ runBytes (answer .run) ++ drop 15 entry → Reported report entry exit refusal
   report-put exit room put =
       record { answer-is = told; run-is = rw (le-ltb (length entry) 15 room) (put ∙ ap (λ (r : Report). runBytes (r .run) ++ drop 15 entry) same) }
+
+-- the two ends of a call that reads limits: the lent record is too short and stays, or its limits are those of the answer's
+module _
+    (file entry : List ℕ) (found : CellReading) (answer : ℕ)
+    (same : found ≡ readLimits file (cellFrom entry)) (number : answer ≡ codeOf (found .verdict))
+  where
+    coded : answer ≡ codeOf (readLimits file (cellFrom entry) .verdict)
+    coded = number ∙ ap (λ (r : CellReading). codeOf (r .verdict)) same
+
+    pub limits-short : length entry < 327 → LimitsAnswered (readLimits file (cellFrom entry)) entry entry answer
+    limits-short short = record { answer-is = coded; buffer-is = rw (lt-ltb (length entry) 327 short) }
+
+    pub limits-put : (exit : List ℕ) → 327 ≤ length entry → length (found .cell .limits) ≡ 6
+        → exit ≡ sets entry 321 (found .cell .limits)
+        → LimitsAnswered (readLimits file (cellFrom entry)) entry exit answer
+    limits-put exit room six put =
+        let l = found .cell .limits in
+        let end : 321 + length l ≡ 327 = omega (arith, six) in
+        let whole : limitedTo (cellFrom entry) l ≡ readLimits file (cellFrom entry) .cell =
+        ap (λ (r : CellReading). limitedTo (cellFrom entry) (r .cell .limits)) same ∙ sym (only-limits file (cellFrom entry)) in
+        record {
+          answer-is = coded;
+          buffer-is =
+              rw (le-ltb (length entry) 327 room)
+              (put ∙ sets-eq l entry 321 (omega (arith, six))
+              ∙ ap (λ (n : ℕ). (take 321 entry ++ l) ++ drop n entry) end
+              ∙ ap (λ (m : List ℕ). (take 321 entry ++ m) ++ drop 327 entry) (sym (tabulate-is (λ k. getD l k 0) l 6 six (λ k low. refl)))
+              ∙ ap (λ (m : List ℕ). m ++ drop 327 entry) (sym (cell-lines-back entry room l))
+              ∙ ap (λ (c : Cell). cellBytes c ++ drop 327 entry) whole);
+        }
 
 -- the plan call on the records that the bytes hold
 pub plan-answered :

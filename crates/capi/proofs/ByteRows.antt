@@ -17,6 +17,21 @@ put-after P old vs room =
     ∙ ap (λ (l : List ℕ). (l ++ vs) ++ drop (length P + length vs) (P ++ drop (length P) old)) (take-at P (drop (length P) old) (length P) refl)
     ∙ ap (λ (l : List ℕ). (P ++ vs) ++ l) (drop-append-add P (drop (length P) old) (length vs) ∙ drop-drop (length vs) (length P) old)
 
+-- so a piece is put behind those that stand at the start
+pub put-next :
+    (P old vs before after : List ℕ) (n k : ℕ)
+    → before ≡ P ++ drop n old
+    → after ≡ sets before n vs
+    → length P ≡ n
+    → n + length vs ≡ k
+    → k ≤ length old
+    → after ≡ (P ++ vs) ++ drop k old
+put-next P old vs before after n k is put here next room =
+    put ∙ ap (λ (b : List ℕ). sets b n vs) is
+    ∙ ap (λ (i : ℕ). sets (P ++ drop i old) i vs) (sym here)
+    ∙ put-after P old vs (omega arith)
+    ∙ ap (λ (i : ℕ). (P ++ vs) ++ drop i old) (ap (λ (i : ℕ). i + length vs) here ∙ next)
+
 -- three pieces put at the start
 pub put-three :
     (old first second third x y z : List ℕ) (m n k : ℕ)
@@ -29,17 +44,9 @@ pub put-three :
     → k ≤ length old
     → third ≡ ((x ++ y) ++ z) ++ drop k old
 put-three old first second third x y z m n k e f g lx ly lz room =
-    let none : length {A = ℕ} [] + length x ≡ m = omega (arith, lx) in
-    let one : sets old 0 x ≡ x ++ drop m old = put-after [] old x (omega (arith, lx)) ∙ ap (λ (i : ℕ). x ++ drop i old) none in
-    let two : sets (x ++ drop m old) m y ≡ (x ++ y) ++ drop n old =
-    ap (λ (i : ℕ). sets (x ++ drop i old) i y) (sym lx) ∙ put-after x old y (omega (arith, lx))
-    ∙ ap (λ (i : ℕ). (x ++ y) ++ drop (i + length y) old) lx ∙ ap (λ (i : ℕ). (x ++ y) ++ drop i old) ly in
-    let both : length (x ++ y) ≡ n = length-append x y ∙ ap (λ (i : ℕ). i + length y) lx ∙ ly in
-    g ∙ ap (λ (b : List ℕ). sets b n z) (f ∙ ap (λ (b : List ℕ). sets b m y) (e ∙ one) ∙ two)
-    ∙ ap (λ (i : ℕ). sets ((x ++ y) ++ drop i old) i z) (sym both)
-    ∙ put-after (x ++ y) old z (omega (arith, both))
-    ∙ ap (λ (i : ℕ). ((x ++ y) ++ z) ++ drop (i + length z) old) both
-    ∙ ap (λ (i : ℕ). ((x ++ y) ++ z) ++ drop i old) lz
+    put-next (x ++ y) old z second third n k
+    (put-next x old y first second m n (put-next [] old x old first 0 m refl e refl (omega arith) (omega arith)) f lx ly (omega arith))
+    g (length-append x y ∙ ap (λ (i : ℕ). i + length y) lx ∙ ly) lz room
 
 -- the first byte, and i rows of k bytes each, are put
 pub record RowsPut (row : ℕ → List ℕ) (k count : ℕ) (old : List ℕ) (i at : ℕ) (buffer : List ℕ) : Type 0 where

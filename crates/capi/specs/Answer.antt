@@ -10,6 +10,7 @@ use Rattle.refusals.specs.declared.Refusal.the-variants.{TooShort}
 use Rattle.refusals.specs.declared.Verdict.{Verdict}
 use Rattle.refusals.specs.Verdict.{refusalIn}
 use Rattle.cell.specs.declared.Cell.{Cell}
+use Rattle.cell.specs.declared.CellReading.{CellReading}
 use Rattle.recipe.specs.declared.Recipe.{Recipe}
 use Rattle.run.specs.declared.Move.{Move}
 use Rattle.run.specs.declared.Place.{Place}
@@ -17,13 +18,20 @@ use Rattle.run.specs.declared.Report.{Report}
 use Rattle.run.specs.declared.Run.{Run}
 use Rattle.run.specs.Calls.{Stored}
 use Rattle.planner.specs.Call.{PlanCall}
-use Rattle.capi.specs.Encoding.{codeOf, runBytes}
+use Rattle.capi.specs.Encoding.{codeOf, cellBytes, runBytes}
 
 -- a buffer lent for the answer that is too short gets 14 with line 0, whatever else was handed in, and stays as it was;
 -- otherwise the answer is the verdict's, the buffer begins with the record's bytes, refused or not, and its rest stays
 pub record BufferAnswered (verdict : Verdict) (bytes : List ℕ) (size : ℕ) (entry exit : List ℕ) (answer : ℕ) : Type 0 where
   pub answer-is : answer ≡ cond (ltb (length entry) size) (numberOf TooShort) (codeOf verdict)
   pub buffer-is : exit ≡ cond (ltb (length entry) size) entry (bytes ++ drop size entry)
+
+-- the reader of limits "is handed the record it adds to, .. and returns it unchanged when it refuses": the answer is its verdict's.
+-- The record's bytes are then those of the record that it returns, and what stands past them stays; bytes too few for a record
+-- stay as they were
+pub record LimitsAnswered (reading : CellReading) (entry exit : List ℕ) (answer : ℕ) : Type 0 where
+  pub answer-is : answer ≡ codeOf (reading .verdict)
+  pub buffer-is : exit ≡ cond (ltb (length entry) 327) entry (cellBytes (reading .cell) ++ drop 327 entry)
 
 -- a next-move call's result: refusal × 2^32 + entry
 unfoldable pub moveCode : Move → ℕ

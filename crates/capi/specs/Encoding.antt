@@ -24,9 +24,9 @@ rowsOf row (suc n) = rowsOf row n ++ row n
 unfoldable pub cellRow : Cell → ℕ → List ℕ
 cellRow c n = getD (c .resource) n 0 ∷ getD (c .from) n 0 ∷ getD (c .act) n 0 ∷ getD (c .arg) n 0 ∷ getD (c .to) n 0 ∷ []
 
--- the 321 bytes of a cell record: byte 0 is the line count, then follow the 64 lines
+-- the 327 bytes of a cell record: byte 0 is the line count, then follow the 64 lines and the six limits
 unfoldable pub cellBytes : Cell → List ℕ
-cellBytes c = c .count ∷ rowsOf (cellRow c) 64
+cellBytes c = (c .count ∷ rowsOf (cellRow c) 64) ++ tabulate 6 (λ k. getD (c .limits) k 0)
 
 -- a line of a recipe record: point, kind, op, takes, gives, then, else
 unfoldable pub recipeRow : Recipe → ℕ → List ℕ
@@ -42,10 +42,10 @@ recipeBytes r = r .count ∷ rowsOf (recipeRow r) 64
 unfoldable pub columnOf : ℕ → List ℕ → ℕ → List ℕ
 columnOf width bytes i = tabulate 64 (λ n. getD bytes (1 + n * width + i) 0)
 
--- the record that bytes hold; bytes too few for a record count as one of no lines
+-- the record that bytes hold; bytes too few for a record count as one of no lines, a cell's limits then being 8
 unfoldable pub cellFrom : List ℕ → Cell
 cellFrom bytes =
-    cond (ltb (length bytes) 321) noCell
+    cond (ltb (length bytes) 327) noCell
     (record {
       count = getD bytes 0 0;
       resource = columnOf 5 bytes 0;
@@ -53,6 +53,7 @@ cellFrom bytes =
       act = columnOf 5 bytes 2;
       arg = columnOf 5 bytes 3;
       to = columnOf 5 bytes 4;
+      limits = tabulate 6 (λ k. getD bytes (321 + k) 0);
     })
 
 unfoldable pub recipeFrom : List ℕ → Recipe

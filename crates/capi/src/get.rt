@@ -1,7 +1,8 @@
 // Records and runs read from bytes.
 ghost use mathlib.Core.Path.{_≡_};
 ghost use Prim.Native.Nat.{_+_, _*_, _<_, _≤_};
-ghost use lib.ListN.{length};
+ghost use lib.ListN.{length, getD};
+ghost use Rattle.refusals.specs.Search.{tabulate};
 ghost use Rattle.capi.specs.Encoding.{columnOf, cellFrom, recipeFrom, runFrom};
 use cell::Cell;
 use positions::Configuration;
@@ -30,11 +31,26 @@ fn column(bytes: &[u8], width: usize, i: usize) -> [u8; 64]
     column
 }
 
+// Six bytes, one for each resource, from a place on.
+fn six(bytes: &[u8], at: usize) -> [u8; 6]
+    requires { ⌜ at + 6 ≤ length (now bytes) ⌝ }
+    ensures { λ r. ⌜ r ≡ tabulate 6 (λ k. getD (now (bytes .entry)) (at + k) 0) ⌝ }
+{
+    [
+        bytes[at],
+        bytes[at + 1],
+        bytes[at + 2],
+        bytes[at + 3],
+        bytes[at + 4],
+        bytes[at + 5],
+    ]
+}
+
 // The cell record that bytes hold, one of no lines if they are too few.
 pub fn get_cell(bytes: &[u8]) -> Cell
     ensures { λ r. ⌜ r ≡ cellFrom (now (bytes .entry)) ⌝ }
 {
-    if bytes.len() < 321 {
+    if bytes.len() < 327 {
         return Cell {
             count: 0,
             resource: [0u8; 64],
@@ -42,6 +58,7 @@ pub fn get_cell(bytes: &[u8]) -> Cell
             act: [0u8; 64],
             arg: [0u8; 64],
             to: [0u8; 64],
+            limits: [8u8; 6],
         };
     }
     let count = count_from(bytes[0]);
@@ -50,6 +67,7 @@ pub fn get_cell(bytes: &[u8]) -> Cell
     let act = column(bytes, 5, 2);
     let arg = column(bytes, 5, 3);
     let to = column(bytes, 5, 4);
+    let limits = six(bytes, 321);
     Cell {
         count,
         resource,
@@ -57,6 +75,7 @@ pub fn get_cell(bytes: &[u8]) -> Cell
         act,
         arg,
         to,
+        limits,
     }
 }
 
@@ -101,7 +120,7 @@ fn get_configuration(bytes: &[u8]) -> Configuration
     requires { ⌜ 15 ≤ length (now bytes) ⌝ }
     ensures { λ r. ⌜ r ≡ runFrom (now (bytes .entry)) .configuration ⌝ }
 {
-    let state = [bytes[1], bytes[2], bytes[3], bytes[4], bytes[5], bytes[6]];
+    let state = six(bytes, 1);
     let place = [
         bytes[7],
         bytes[8],

@@ -6,13 +6,14 @@ ghost use mathlib.Core.Path.{_≡_};
 ghost use lib.ListN.{length};
 ghost use Rattle.tables.specs.Lines.{lineStart, shownLine};
 ghost use Rattle.cell.specs.Reader.{readCell};
+ghost use Rattle.limits.specs.Reader.{readLimits};
 ghost use Rattle.recipe.specs.Reader.{readRecipe};
 ghost use Rattle.refusals.specs.declared.Verdict.the-variants.{Accepted};
 ghost use Rattle.refusals.specs.Verdict.{refusalIn};
 ghost use Rattle.positions.specs.Rules.{checkSizes};
 ghost use Rattle.run.specs.Calls.{freshRun, nextMove, reportOf, partPlace};
 ghost use Rattle.capi.specs.Encoding.{codeOf, cellBytes, recipeBytes, cellFrom, recipeFrom, runBytes, runFrom};
-ghost use Rattle.capi.specs.Answer.{BufferAnswered, moveCode, placeCode, Reported, Recorded, PlanAnswered};
+ghost use Rattle.capi.specs.Answer.{BufferAnswered, LimitsAnswered, moveCode, placeCode, Reported, Recorded, PlanAnswered};
 use refusals::Refusal;
 use refusals::Verdict;
 use run::Run;
@@ -30,12 +31,12 @@ fn code(verdict: Verdict) -> u64
     }
 }
 
-// Reads a cell file into the 321 bytes of a record.
+// Reads a cell file into the 327 bytes of a record.
 #[no_mangle]
 pub extern "C" fn cellplan_read_cell(file: &[u8], buffer: &mut [u8]) -> u64
-    ensures { λ r. ⌜ BufferAnswered (readCell (now (file .entry)) .verdict) (cellBytes (readCell (now (file .entry)) .cell)) 321 (now (buffer .entry)) (now (buffer .exit)) r ⌝ }
+    ensures { λ r. ⌜ BufferAnswered (readCell (now (file .entry)) .verdict) (cellBytes (readCell (now (file .entry)) .cell)) 327 (now (buffer .entry)) (now (buffer .exit)) r ⌝ }
 {
-    if buffer.len() < 321 {
+    if buffer.len() < 327 {
         return refusals::number(Refusal::TooShort) as u64;
     }
     let reading = cell::read_cell(file);
@@ -58,6 +59,23 @@ pub extern "C" fn cellplan_read_recipe(file: &[u8], buffer: &mut [u8]) -> u64
     put::put_recipe(recipe, buffer);
     let verdict = reading.verdict;
     code(verdict)
+}
+
+// Reads a limits file into the limits of a cell record, or leaves these if it refuses. All other bytes stay.
+#[no_mangle]
+pub extern "C" fn cellplan_read_limits(file: &[u8], cell: &mut [u8]) -> u64
+    ensures { λ r. ⌜ LimitsAnswered (readLimits (now (file .entry)) (cellFrom (now (cell .entry)))) (now (cell .entry)) (now (cell .exit)) r ⌝ }
+{
+    let reading = limits::read_limits(file, get::get_cell(cell));
+    let verdict = reading.verdict;
+    let answer = code(verdict);
+    if cell.len() < 327 {
+        return answer;
+    }
+    let found = reading.cell;
+    let most = found.limits;
+    buffers::put(cell, 321, &most);
+    answer
 }
 
 // Where value line n starts in the file; 0 if there is none.

@@ -10,8 +10,8 @@ use run::Run;
 
 // Writes a cell record to the buffer's start.
 pub fn put_cell(cell: Cell, buffer: &mut [u8])
-    requires { ⌜ (cell .count ≤ 64) × (321 ≤ length (now buffer)) ⌝ }
-    ensures { λ _. ⌜ now (buffer .exit) ≡ cellBytes cell ++ drop 321 (now (buffer .entry)) ⌝ }
+    requires { ⌜ (cell .count ≤ 64) × (327 ≤ length (now buffer)) ⌝ }
+    ensures { λ _. ⌜ now (buffer .exit) ≡ cellBytes cell ++ drop 327 (now (buffer .entry)) ⌝ }
 {
     let count = cell.count;
     let resource = cell.resource;
@@ -19,6 +19,7 @@ pub fn put_cell(cell: Cell, buffer: &mut [u8])
     let act = cell.act;
     let arg = cell.arg;
     let to = cell.to;
+    let limits = cell.limits;
     buffer[0] = count as u8;
     let mut at = 1;
     let mut i = 0;
@@ -28,6 +29,7 @@ pub fn put_cell(cell: Cell, buffer: &mut [u8])
         at += 5;
         i += 1;
     }
+    buffers::put(buffer, at, &limits);
 }
 
 // Writes a recipe record to the buffer's start.

@@ -1,22 +1,24 @@
--- What a record has that rule 4 accepts, and that each rule accepts a record that all of them together accept.
--- Assumes nothing.
+-- What a record has that rule 4 accepts, or that all of its rules together accept: that each does, and what is left of its
+-- limits. Assumes nothing.
 use mathlib.Core.Path.{_≡_, refl}
-use mathlib.Core.Bool.{true}
+use mathlib.Core.Bool.{Bool, true, false, _&&_}
 use mathlib.Core.List.{List}
 use Prim.Native.Nat.{ℕ, _<_, _≤_}
 use native.Mathlib.Omega.{arith}
 use lib.ListN.{length, getD}
-use borrow.Author.Tests.{leb-true, not-false}
+use borrow.Author.Tests.{le-leb, leb-true, eqb-true, not-false}
 use Rattle.refusals.specs.declared.Verdict.the-variants.{Accepted, Refused}
 use Rattle.refusals.specs.declared.Verdict.{Verdict}
 use Rattle.refusals.specs.Verdict.{rule3, ifAccepted}
-use Rattle.refusals.proofs.Verdicts.{and-left, and-right, none-breaks, count-in-range}
+use Rattle.refusals.proofs.EveryBelow.{any-not}
+use Rattle.refusals.proofs.Verdicts.{and-left, and-right, none-breaks, noLine-accepts, count-in-range}
 use Rattle.refusals.proofs.Rules.{first-accepts, rest-accepts}
 use Rattle.tables.specs.Lines.{valueLines}
 use Rattle.cell.specs.declared.Cell.{Cell}
 use Rattle.cell.specs.Reader.{cellOf, judgeCell, readCell}
 use Rattle.cell.specs.Inner.{reading}
-use Rattle.cell.specs.Rules.{inRange, leavesRange, rule4, rule5, rule6, cellRules, checkCell}
+use Rattle.cell.specs.Rules.{inRange, leavesRange, rule4, limitInRange, limitLeavesRange, rule4Limits, resourceCount}
+use Rattle.cell.specs.Rules.{rule5, rule6, limitsAbsent, rule20, cellRules, checkCell}
 
 -- what rule 4 leaves of the numbers of line n
 pub record LineInRange (c : Cell) (n : ℕ) : Type 0 where
@@ -40,12 +42,29 @@ line-in-range c e n low =
       to = leb-true _ _ (search (and-left, and-right));
     }
 
--- the rules of a cell record, each by itself
+module _ (c : Cell) (k : ℕ) (low : k < 6) where
+  limit-in-range : rule4Limits c ≡ Accepted → (1 ≤ getD (c .limits) k 0) × (getD (c .limits) k 0 ≤ 8)
+  unfolding rule4Limits limitLeavesRange limitInRange
+  limit-in-range e =
+      let fits : limitInRange (getD (c .limits) k 0) ≡ true = not-false _ (any-not _ 6 k (noLine-accepts _ _ e) low) in
+      (leb-true _ _ (search and-left), leb-true _ _ (search and-right))
+
+  limit-eight : rule20 c ≡ Accepted → resourceCount c ≤ k → getD (c .limits) k 0 ≡ 8
+  unfolding rule20 limitsAbsent
+  limit-eight e high = eqb-true _ _ (not-false _ (kept (le-leb (resourceCount c) k high) (any-not _ 6 k (noLine-accepts _ _ e) low)))
+    where
+      kept : {a b : Bool} → a ≡ true → (a && b) ≡ false → b ≡ false
+      kept h e = rw h at e
+
+-- the rules of a cell record, each by itself; of the rules on limits, what they leave
 pub record EachAccepts (c : Cell) : Type 0 where
   pub third : rule3 (c .count) ≡ Accepted
   pub fourth : rule4 c ≡ Accepted
   pub fifth : rule5 c ≡ Accepted
   pub sixth : rule6 c ≡ Accepted
+  pub limit-least : (k : ℕ) → k < 6 → 1 ≤ getD (c .limits) k 0
+  pub limit-most : (k : ℕ) → k < 6 → getD (c .limits) k 0 ≤ 8
+  pub limit-absent : (k : ℕ) → resourceCount c ≤ k → k < 6 → getD (c .limits) k 0 ≡ 8
 
 pub each-accepts : (c : Cell) → checkCell c ≡ Accepted → EachAccepts c
 unfolding checkCell cellRules
@@ -55,6 +74,9 @@ each-accepts c e =
       fourth = search (first-accepts, rest-accepts);
       fifth = search (first-accepts, rest-accepts);
       sixth = search (first-accepts, rest-accepts);
+      limit-least = λ k low. limit-in-range c k low (search (first-accepts, rest-accepts)) .0;
+      limit-most = λ k low. limit-in-range c k low (search (first-accepts, rest-accepts)) .1;
+      limit-absent = λ k high low. limit-eight c k low (search (first-accepts, rest-accepts)) high;
     }
 
 -- a reader's record has at most 64 lines, refused or not

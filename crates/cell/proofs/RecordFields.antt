@@ -18,7 +18,7 @@ use Rattle.tables.specs.Table.{numberAt, column}
 use Rattle.tables.specs.Reading.{Kept, within, Ranged}
 use Rattle.tables.proofs.Columns.{within-most, column-at, OfFile, of-file, read-all}
 use Rattle.cell.specs.Rules.{leavesRange, rule4, inRange}
-use Rattle.cell.specs.Reader.{cellOf, noCell}
+use Rattle.cell.specs.Reader.{noLimits, cellOf, noCell}
 use Rattle.cell.specs.Inner.{reading}
 
 leaves : List ℕ → ℕ → Bool
@@ -106,6 +106,7 @@ module _
         act = act .values;
         arg = arg .values;
         to = to .values;
+        limits = noLimits;
       } ≡ cellOf
           f
       unfolding cellOf
@@ -119,7 +120,7 @@ module _
           let c = read-all f 2 0 3 (from .lines) count act R2 most1 (omega (arith, R3 .fewer, R4 .fewer)) few all in
           let d = read-all f 3 0 63 (act .lines) count arg R3 most2 (omega (arith, R4 .fewer)) few all in
           let e = read-all f 4 0 7 (arg .lines) count to R4 most3 past few all in
-          λ i. record { count = all i; resource = a i; from = b i; act = c i; arg = d i; to = e i }
+          λ i. record { count = all i; resource = a i; from = b i; act = c i; arg = d i; to = e i; limits = noLimits }
 
       pub stored-fine : (rest : List Verdict) → firstRefusal rest ≡ firstRefusal (rule4 (cellOf f) ∷ rest)
       unfolding rule4 cellOf leaves

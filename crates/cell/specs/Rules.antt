@@ -1,12 +1,12 @@
--- The rules on a cell record, in the order of the refusal list. Each sees the first `count` lines alone.
+-- The rules on a cell record, in the order of the refusal list. Each sees the first `count` lines alone, or the six limits.
 -- Assumes nothing.
 use mathlib.Core.Bool.{Bool, cond, not, _&&_, _||_}
 use mathlib.Core.List.{List, [], _∷_}
-use Prim.Native.Nat.{ℕ}
+use Prim.Native.Nat.{ℕ, _+_}
 use lib.ListN.{getD}
 use lib.Dec.{eqb, leb}
 use Rattle.refusals.specs.declared.Verdict.{Verdict}
-use Rattle.refusals.specs.declared.Refusal.the-variants.{Range, ResourceGap, NoPartner}
+use Rattle.refusals.specs.declared.Refusal.the-variants.{Range, ResourceGap, NoPartner, LimitResource}
 use Rattle.refusals.specs.Search.{anyBelow, greatestBelow, isOf}
 use Rattle.refusals.specs.Verdict.{firstRefusal, firstLine, noLine, rule3}
 use Rattle.cell.specs.declared.Cell.{Cell}
@@ -23,9 +23,25 @@ leavesRange resource from act arg to n = not (inRange (getD resource n 0) (getD 
 unfoldable pub rule4 : Cell → Verdict
 rule4 c = firstLine Range (leavesRange (c .resource) (c .from) (c .act) (c .arg) (c .to)) (c .count)
 
+-- "the most parts (1 to 8) that a resource (0 to 5) may hold"
+unfoldable pub limitInRange : ℕ → Bool
+limitInRange limit = leb 1 limit && leb limit 8
+
+-- "in a record a limit outside 1 to 8": that of resource k is
+unfoldable pub limitLeavesRange : List ℕ → ℕ → Bool
+limitLeavesRange limits k = not (limitInRange (getD limits k 0))
+
+-- "in a record a limit outside 1 to 8 gives 4", after the lines' numbers; it is in no line
+unfoldable pub rule4Limits : Cell → Verdict
+rule4Limits c = noLine Range (anyBelow (limitLeavesRange (c .limits)) 6)
+
 -- "the greatest resource number"
 unfoldable pub greatestResource : List ℕ → ℕ → ℕ
 greatestResource resource count = greatestBelow (λ n. getD resource n 0) count
+
+-- "R is the greatest resource number plus 1."
+abbrev pub resourceCount : Cell → ℕ
+resourceCount c = greatestResource (c .resource) (c .count) + 1
 
 -- "a resource .. has no line": none of the lines is of resource k
 unfoldable pub hasNoLine : List ℕ → ℕ → ℕ → Bool
@@ -57,9 +73,17 @@ unpaired resource act arg count i =
 unfoldable pub rule6 : Cell → Verdict
 rule6 c = firstLine NoPartner (unpaired (c .resource) (c .act) (c .arg) (c .count)) (c .count)
 
+-- "one other than 8 at or above R": that of resource k is, where there are R resources
+unfoldable pub limitsAbsent : List ℕ → ℕ → ℕ → Bool
+limitsAbsent limits R k = leb R k && not (eqb (getD limits k 0) 8)
+
+-- "in a record .. one other than 8 at or above R gives 20", "after 6"; it is in no line
+unfoldable pub rule20 : Cell → Verdict
+rule20 c = noLine LimitResource (anyBelow (limitsAbsent (c .limits) (resourceCount c)) 6)
+
 -- "Planner and run calls check handed-in values anew from rule 3, cell first: all of its rules"
 unfoldable pub cellRules : Cell → List Verdict
-cellRules c = rule3 (c .count) ∷ rule4 c ∷ rule5 c ∷ rule6 c ∷ []
+cellRules c = rule3 (c .count) ∷ rule4 c ∷ rule4Limits c ∷ rule5 c ∷ rule6 c ∷ rule20 c ∷ []
 
 unfoldable pub checkCell : Cell → Verdict
 checkCell c = firstRefusal (cellRules c)

@@ -1,4 +1,5 @@
 // The cell: its record, the rules on a record, and its reader.
+mod limits;
 mod ports;
 mod range;
 mod reader;
@@ -8,13 +9,14 @@ ghost use mathlib.Core.Path.{_≡_};
 ghost use Prim.Native.Nat.{_≤_};
 ghost use Rattle.refusals.specs.Verdict.{firstRefusal};
 ghost use Rattle.cell.specs.Reader.{readCell};
-ghost use Rattle.cell.specs.Rules.{rule4, checkCell};
-ghost use Rattle.cell.specs.Inner.{afterRange};
+ghost use Rattle.cell.specs.Rules.{checkCell};
+ghost use Rattle.cell.specs.Inner.{ranges, afterRange, limitsVerdict};
 use refusals::Refusal;
 use refusals::Verdict;
 use tables::Form;
 
-// The lines of a cell, an array for each field; what lies past the count counts for nothing.
+// The lines of a cell, an array for each field, and the most parts that each resource may hold; of the lines what lies
+// past the count counts for nothing.
 pub struct Cell {
     pub count: usize,
     pub resource: [u8; 64],
@@ -22,18 +24,20 @@ pub struct Cell {
     pub act: [u8; 64],
     pub arg: [u8; 64],
     pub to: [u8; 64],
+    pub limits: [u8; 6],
 }
 
-// What a reader returns: the record, or a record of no lines with the refusal.
+// What a reader returns: its verdict and the record. Beside a refusal `read_cell` has a record of no lines, and a reader
+// that is handed a record has that one.
 pub struct CellReading {
     pub verdict: Verdict,
     pub cell: Cell,
 }
 
-// Rule 4, on a record that passed rule 3.
+// Rule 4, on a record that passed rule 3: its lines, then its limits, which are in no line.
 fn check_ranges(cell: Cell) -> Verdict
     requires { ⌜ cell .count ≤ 64 ⌝ }
-    ensures { λ r. ⌜ r ≡ rule4 cell ⌝ }
+    ensures { λ r. ⌜ r ≡ firstRefusal (ranges cell) ⌝ }
 {
     let count = cell.count;
     let resource = cell.resource;
@@ -42,7 +46,14 @@ fn check_ranges(cell: Cell) -> Verdict
     let arg = cell.arg;
     let to = cell.to;
     let first = range::first_out_of_range(&resource, &from, &act, &arg, &to, count);
-    refusals::at_line(Refusal::Range, first, count)
+    if first < count {
+        return Verdict::Refused(Refusal::Range, first + 2);
+    }
+    let most = cell.limits;
+    if limits::any_out_of_range(&most) {
+        return Verdict::Refused(Refusal::Range, 0);
+    }
+    Verdict::Accepted
 }
 
 // Rules 5 and 6, on a record that passed rules 3 and 4.
@@ -61,7 +72,22 @@ pub fn check_ports(cell: Cell) -> Verdict
     refusals::at_line(Refusal::NoPartner, first, count)
 }
 
-// Rules 3 to 6 on a record handed in, whatever is in it.
+// Rule 20, on the limits and the lines' resources of a record that passed rule 3. Where every limit is 8, R need not be known.
+fn check_limits(most: &[u8; 6], resource: &[u8; 64], count: usize) -> Verdict
+    requires { ⌜ count ≤ 64 ⌝ }
+    ensures { λ r. ⌜ r ≡ limitsVerdict (now (most .entry)) (now (resource .entry)) count ⌝ }
+{
+    if !limits::any_absent(most, 0) {
+        return Verdict::Accepted;
+    }
+    let resources = resources::greatest(resource, count) as usize + 1;
+    if limits::any_absent(most, resources) {
+        return Verdict::Refused(Refusal::LimitResource, 0);
+    }
+    Verdict::Accepted
+}
+
+// All rules on a record handed in, whatever is in it.
 pub fn check_cell(cell: Cell) -> Verdict
     ensures { λ r. ⌜ r ≡ checkCell cell ⌝ }
 {
@@ -73,7 +99,13 @@ pub fn check_cell(cell: Cell) -> Verdict
     let Verdict::Accepted = ranged else {
         return ranged;
     };
-    check_ports(cell)
+    let paired = check_ports(cell);
+    let Verdict::Accepted = paired else {
+        return paired;
+    };
+    let most = cell.limits;
+    let resource = cell.resource;
+    check_limits(&most, &resource, cell.count)
 }
 
 // The cell that a file writes, whatever is in it.

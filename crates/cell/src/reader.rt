@@ -28,6 +28,7 @@ pub fn refused(refusal: Refusal, line: usize) -> CellReading
             act: [0u8; 64],
             arg: [0u8; 64],
             to: [0u8; 64],
+            limits: [8u8; 6],
         },
     }
 }
@@ -71,6 +72,7 @@ fn store_lines(numbers: &[u32], count: usize) -> CellReading
         act,
         arg,
         to,
+        limits: [8u8; 6],
     })
 }
 

@@ -83,7 +83,7 @@ module _ (f : ℕ → Bool) where
       decide true e = absurd (omega (arith, first-at-most i n low e))
 
   -- the search passes over numbers that are none
-  first-past : (n : ℕ) → ((i : ℕ) → i < n → f i ≡ false) → firstBelow f n ≡ n
+  pub first-past : (n : ℕ) → ((i : ℕ) → i < n → f i ≡ false) → firstBelow f n ≡ n
   unfolding firstBelow
   first-past zero none = refl
   first-past (suc n) none = rw (eq-eqb _ _ (first-past n (λ i low. none i (omega arith))), none n (omega arith))

@@ -14,6 +14,7 @@ use Rattle.recipe.specs.declared.Recipe.{Recipe}
 use Rattle.positions.specs.declared.Configuration.{Configuration}
 use Rattle.positions.specs.declared.Sizes.{Sizes}
 use Rattle.steps.specs.Lines.{kindOf}
+use Rattle.steps.specs.Limits.{noneOverfull}
 use Rattle.steps.specs.Carry.{present, free, carries}
 use Rattle.steps.specs.Entry.{entryKind, letter, stepOf}
 use Rattle.run.specs.declared.Run.{Run}
@@ -76,6 +77,11 @@ carriedPoint c r p issue = let e = issue .entry in carries c r p (stepOf c r p e
 unfoldable pub fewSilent : Cell → Recipe → Sizes → Moment → Bool
 fewSilent c r z m = ltb (turned c r (m .book) (m .move) (m .call) .q) (z .joint * z .ways)
 
+-- "An accepted plan now also means that no station is ever overfull": of the book before a call, and after it
+unfoldable pub neverOverfull : Cell → Recipe → Moment → Bool
+neverOverfull c r m =
+    noneOverfull c (m .book .configuration) && noneOverfull c (turned c r (m .book) (m .move) (m .call) .configuration)
+
 -- the promises of demand 3 for a list of calls as the book meets them, from point p on, but for what a run answers
 pub record Keeps (c : Cell) (r : Recipe) (z : Sizes) (p : ℕ) (met : List Moment) : Type 0 where
   pub refused-at-ends : every (λ m. rightly c r (m .book) (m .move) (m .call)) met ≡ true
@@ -84,6 +90,7 @@ pub record Keeps (c : Cell) (r : Recipe) (z : Sizes) (p : ℕ) (met : List Momen
   pub parts-found : everyIssue (ofCarries (foundParts c r)) r p (issued c r met) ≡ true
   pub points-followed : everyIssue (ofCarries (carriedPoint c r)) r p (issued c r met) ≡ true
   pub silent-few : every (fewSilent c r z) met ≡ true
+  pub none-overfull : every (neverOverfull c r) met ≡ true
 
 -- "Demand 3 is a single claim about the whole list and not one for each call. All calls get the same cell, recipe and table."
 pub record Promises (c : Cell) (r : Recipe) (z : Sizes) (table : List ℕ) (p : ℕ) (a : Configuration) (calls : List Call) : Type 0 where

@@ -26,7 +26,7 @@ use Rattle.steps.specs.Single.{handOver, carriesTo}
 use Rattle.steps.proofs.MadeConfiguration.{handed-at}
 use Rattle.steps.proofs.Effects.{Open, open-silent, open-carried, open-ended, open-is, read-silent, read-carried, read-ended, makes-is}
 use Rattle.steps.proofs.Effects.{leads-silent, do-leads, passed-leads, failed-leads}
-use Rattle.steps.proofs.SingleEffects.{effect-silent, effect-carry}
+use Rattle.steps.proofs.SingleEffects.{single-silent, single-carried}
 use Rattle.steps.proofs.SingleMoves.{SilentMove, internal, transfer, silent-move, carry-makes, do-places, test-places, hands-over, hands-keeps}
 use Rattle.steps.proofs.OpenByKind.{end-opens, opens-joint}
 use Rattle.run.specs.Book.{Book, atEnd, isOpen, setTo, movedTo, configurationAfter, pointAfter, made}
@@ -144,7 +144,7 @@ module _
     silent-made b is =
         let quiet = read-silent c r p a e is in
         let move =
-        silent-move c a e (sym (effect-silent c r p a e (K .cell-passes) (quiet .some) (here .six) (here .eight) (quiet .kind)) ∙ is) in
+        silent-move c a e (single-silent c r p a e (K .cell-passes) (here .six) (here .eight) is) in
         joined b (sym (ap (λ (d : Configuration). d .state) (quiet .made))) (silent-places b move)
 
     carry-places : (b : Configuration) (outcome : ℕ) → entryKind e ≡ 3 → b ≡ carriesTo c r p a e outcome
@@ -169,8 +169,7 @@ module _
     carried-made b d is =
         let carry = read-carried c r p a e is in
         let made =
-        carry-makes c r p a e
-        (sym (effect-carry c r p a e (K .cell-passes) (carry .some) (here .six) (here .eight) most (carry .kind)) ∙ is) in (
+        carry-makes c r p a e (single-carried c r p a e (K .cell-passes) (here .six) (here .eight) most is) in (
           joined b (carry-step-states 1 ∙ sym (ap (λ (f : Configuration). f .state) (carry .passed))) (carry-places b 1 (carry .kind) (made .0)),
           joined d (carry-step-states 0 ∙ sym (ap (λ (f : Configuration). f .state) (carry .failed))) (carry-places d 0 (carry .kind) (made .1)),
         )

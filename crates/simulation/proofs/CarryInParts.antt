@@ -2,7 +2,7 @@
 -- other is silent, and in either order they make the same.
 -- Assumes nothing.
 use mathlib.Core.Path.{_≡_, refl, sym, ap, _∙_}
-use mathlib.Core.Bool.{Bool, true, false, cond, not, _&&_, _||_}
+use mathlib.Core.Bool.{Bool, true, false, cond, not, _&&_, _||_, true≢false}
 use mathlib.Core.List.{List}
 use Prim.Native.Nat.{ℕ, zero, suc, _+_, _<_, _≤_}
 use native.Mathlib.Numerals.{add-one}
@@ -21,13 +21,16 @@ use Rattle.recipe.specs.declared.Recipe.{Recipe}
 use Rattle.recipe.specs.Rules.{holdsPart}
 use Rattle.positions.specs.declared.Configuration.{Configuration}
 use Rattle.steps.specs.Lines.{resourceOf, placeOf, firstLineOf, linesOf, lineOf, kindOf, isTaken, isGiven}
+use Rattle.steps.specs.Limits.{load, noneOverfull}
 use Rattle.steps.specs.Joint.{Choice, rests, mayDo, acts, isStep, isSilent, handed, placeAfter, after}
-use Rattle.steps.specs.Carry.{serves, matches, standsAt, present, isFree, free, carries, putThere, placed, partsMoved, afterCarry}
+use Rattle.steps.specs.Carry.{serves, matches, standsAt, present, isFree, free, suits, carries, putThere, placed, partsMoved, afterCarry}
 use Rattle.steps.proofs.ReadyLines.{both, resources-fit}
+use Rattle.steps.proofs.StationLoads.{carry-suits, carry-room, carry-by, room-at, room-by, rest-load}
 use Rattle.steps.proofs.CarryLines.{match-at, taken-at, match-count}
 use Rattle.steps.proofs.MadeConfiguration.{join}
 use Rattle.simulation.proofs.StepInParts.{part, rest, Closed, part-in, part-out, rest-in, part-silent, part-keeps, may-same}
-use Rattle.simulation.proofs.StepInParts.{part-step, after-place, rest-step, parted-after}
+use Rattle.simulation.proofs.StepInParts.{part-step, after-place, rest-step, parted-after, part-load}
+use Rattle.simulation.proofs.CarriedLoads.{carry-load, moved-load}
 
 -- the resources in s take all the operations, or none
 abbrev pub AllOperations : Cell → Choice → (ℕ → Bool) → Type 0
@@ -36,23 +39,32 @@ AllOperations c x s = (k : ℕ) → k < 6 → acts c 1 (x k) ≡ true → s k �
 abbrev pub NoOperation : Cell → Choice → (ℕ → Bool) → Type 0
 NoOperation c x s = (k : ℕ) → k < 6 → acts c 1 (x k) ≡ true → s k ≡ false
 
--- a step that carries a point is a step, and matches its lines
-carrying : (c : Cell) (r : Recipe) (p : ℕ) (x : Choice) (ls : ℕ → ℕ) (a : Configuration)
-    → carries c r p x ls a ≡ true → (isStep c a x ≡ true) × (matches c r p x ls ≡ true)
-unfolding carries
-carrying c r p x ls a h = (search and-left, search (and-left, and-right))
+-- a step that suits a point is a step, and matches its lines
+suiting : (c : Cell) (r : Recipe) (p : ℕ) (x : Choice) (ls : ℕ → ℕ) (a : Configuration)
+    → suits c r p x ls a ≡ true → (isStep c a x ≡ true) × (matches c r p x ls ≡ true)
+unfolding suits
+suiting c r p x ls a h = (search and-left, search (and-left, and-right))
 
--- a step that matches, where parts are present and free as they were, carries what was carried
-carries-by :
+-- it finds the parts that the point takes, and at a do room for those that it gives
+found : (c : Cell) (r : Recipe) (p : ℕ) (x : Choice) (ls : ℕ → ℕ) (a : Configuration)
+    → suits c r p x ls a ≡ true → (present c r p ls a ≡ true) × (kindOf r p ≡ 1 → free r p a ≡ true)
+unfolding suits
+found c r p x ls a h = (
+  search (and-left, and-right),
+  λ work. let all : free r p a ≡ true = rw work at (and-right (present c r p ls a) _ (and-right (matches c r p x ls) _ (and-right (isStep c a x) _ h))) in all,
+)
+
+-- a step that matches, where parts are present and free as they were, suits what was suited
+suits-by :
     (c : Cell) (r : Recipe) (p : ℕ) (x y : Choice) (ls : ℕ → ℕ) (a b : Configuration)
     → isStep c b y ≡ true
     → matches c r p y ls ≡ true
     → (present c r p ls a ≡ true → present c r p ls b ≡ true)
     → (free r p a ≡ true → free r p b ≡ true)
-    → carries c r p x ls a ≡ true
-    → carries c r p y ls b ≡ true
-unfolding carries
-carries-by c r p x y ls a b step match stand out = decide (eqb (kindOf r p) 1) (eqb (kindOf r p) 2)
+    → suits c r p x ls a ≡ true
+    → suits c r p y ls b ≡ true
+unfolding suits
+suits-by c r p x y ls a b step match stand out = decide (eqb (kindOf r p) 1) (eqb (kindOf r p) 2)
   where
     decide :
         (s t : Bool)
@@ -190,11 +202,14 @@ module _
     (carry : carries c r p x ls a ≡ true)
     (s : ℕ → Bool) (closed : Closed c x s)
   where
+    suit : suits c r p x ls a ≡ true
+    suit = carry-suits c r p x ls a carry
+
     step : isStep c a x ≡ true
-    step = carrying c r p x ls a carry .0
+    step = suiting c r p x ls a suit .0
 
     match : matches c r p x ls ≡ true
-    match = carrying c r p x ls a carry .1
+    match = suiting c r p x ls a suit .1
 
     abbrev middle : Configuration
     middle = after c (part x s) a
@@ -250,22 +265,44 @@ module _
           outside : (q : ℕ) → q < 8 → placeOf a q ≡ 0 → placeOf middle q ≡ 0
           outside q low here = after-place c good a x step s closed q low ∙ ap (placeAfter c (part x s)) here
 
-      pub rest-carries : carries c r p (rest x s) ls middle ≡ true
+      rest-suits : suits c r p (rest x s) ls middle ≡ true
       unfolding rest
-      rest-carries =
-          carries-by c r p x (rest x s) ls a middle (rest-step c good a x step s closed)
-          (part-matches c good r p x ls match (λ k. not (s k)) others-all) rest-present rest-free carry
+      rest-suits =
+          suits-by c r p x (rest x s) ls a middle (rest-step c good a x step s closed)
+          (part-matches c good r p x ls match (λ k. not (s k)) others-all) rest-present rest-free suit
 
       pub parted-carry : (outcome : ℕ) → ((q : ℕ) → q < 8 → placeOf a q ≤ 6) → afterCarry c r p (rest x s) ls outcome middle ≡ afterCarry c r p x ls outcome a
       unfolding afterCarry
       parted-carry outcome most =
           ap (λ (b : Configuration). cond (eqb (kindOf r p) 1) (partsMoved c r p ls b) b) (parted-after c good a x step s closed most)
 
+      pub rest-carries : ((q : ℕ) → q < 8 → placeOf a q ≤ 6) → carries c r p (rest x s) ls middle ≡ true
+      rest-carries most = carry-by c r p (rest x s) ls middle rest-suits (ap (noneOverfull c) (parted-carry 1 most) ∙ carry-room c r p x ls a carry)
+
+      -- where no station is overfull before and after the step, none is between: a resource of the part holds no more than at
+      -- the end, and any other what it held
+      pub part-carry-room : ((q : ℕ) → q < 8 → placeOf a q ≤ 6) → noneOverfull c a ≡ true → noneOverfull c middle ≡ true
+      part-carry-room most before = room-by c middle (λ k low. decide k low (s k) refl)
+        where
+          there : (present c r p ls middle ≡ true) × (kindOf r p ≡ 1 → free r p middle ≡ true)
+          there = found c r p (rest x s) ls middle rest-suits
+
+          decide : (k : ℕ) → k < 6 → (b : Bool) → s k ≡ b → load (middle .place) k ≤ getD (c .limits) k 0
+          decide k low true e =
+              let away : (j : ℕ) → j < linesOf r p → resourceOf c (ls j) ≡ k → ⊥ =
+              λ j less same. true≢false (sym e ∙ ap s (sym same) ∙ line-out j less) in
+              let grown = carry-load c r p (rest x s) ls middle k away (there .0) (there .1) (rest-in x s k e) in
+              let room = room-at c _ (carry-room c r p (rest x s) ls middle (rest-carries most)) k low in
+              omega (arith, grown, room)
+          decide k low false e =
+              let same : load (middle .place) k ≡ load (a .place) k = rw e at (part-load c good a x step s closed most k low) in
+              omega (arith, same, room-at c a before k low)
+
     -- the part has all operations: it carries the point, and then the rest is silent
     module _ (all : AllOperations c x s) where
-      pub part-carries : carries c r p (part x s) ls a ≡ true
-      part-carries =
-          carries-by c r p x (part x s) ls a a carry-part-step (part-matches c good r p x ls match s all) (λ there. there) (λ clear. clear) carry
+      part-suits : suits c r p (part x s) ls a ≡ true
+      part-suits =
+          suits-by c r p x (part x s) ls a a carry-part-step (part-matches c good r p x ls match s all) (λ there. there) (λ clear. clear) suit
 
       pub rest-silent : isSilent c (rest x s) ≡ true
       rest-silent = others-silent c good r p x ls match s all
@@ -295,3 +332,23 @@ module _
           decide : (b : Bool) → after c (rest x s) (cond b (partsMoved c r p ls middle) middle) ≡ cond b (partsMoved c r p ls (after c x a)) (after c x a)
           decide true = moved-after c r p ls (rest x s) middle still ∙ ap (partsMoved c r p ls) ends
           decide false = ends
+
+      abbrev carriedPart : Configuration
+      carriedPart = afterCarry c r p (part x s) ls 1 a
+
+      -- the part carries the point, where no station is overfull before the step
+      pub part-carries : ((q : ℕ) → q < 8 → placeOf a q ≤ 6) → noneOverfull c a ≡ true → carries c r p (part x s) ls a ≡ true
+      part-carries most before = carry-by c r p (part x s) ls a part-suits (room-by c carriedPart (λ k low. decide k low (s k) refl))
+        where
+          decide : (k : ℕ) → k < 6 → (b : Bool) → s k ≡ b → load (carriedPart .place) k ≤ getD (c .limits) k 0
+          decide k low true e =
+              let grown = rest-load c (rest x s) carriedPart k (rest-in x s k e) in
+              let same = ap (λ (d : Configuration). load (d .place) k) (carried-parted 1 most) in
+              let room = room-at c _ (carry-room c r p x ls a carry) k low in
+              omega (arith, grown, same, room)
+          decide k low false e =
+              let away : (j : ℕ) → j < linesOf r p → resourceOf c (ls j) ≡ k → ⊥ =
+              λ j less at. true≢false (sym (line-within c good r p x ls match s all j less) ∙ ap s at ∙ e) in
+              let moved = moved-load c r p (part x s) ls a k away in
+              let same : load (middle .place) k ≡ load (a .place) k = rw e at (part-load c good a x step s closed most k low) in
+              omega (arith, moved, same, room-at c a before k low)

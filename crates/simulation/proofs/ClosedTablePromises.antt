@@ -27,24 +27,31 @@ use Rattle.positions.proofs.CheckedSizes.{records-pass, few-pass}
 use Rattle.positions.specs.Position.{entryOf}
 use Rattle.steps.specs.Lines.{kindOf}
 use Rattle.steps.specs.Joint.{Choice, isStep}
-use Rattle.steps.specs.Carry.{matches, present, free, carries}
+use Rattle.steps.specs.Limits.{noneOverfull}
+use Rattle.steps.specs.Carry.{matches, present, free, suits, carries}
 use Rattle.steps.specs.Entry.{entryKind, letter, isFormed, stepOf, mayBeTaken}
 use Rattle.steps.specs.Effect.{silent, carried, effect, opens, leaves, makes, leadsTo}
+use Rattle.steps.proofs.StationLoads.{carry-suits}
 use Rattle.steps.proofs.Effects.{Open, open-silent, open-carried, open-ended, open-is, read-silent, read-carried, read-ended, makes-is, leads-silent}
 use Rattle.run.specs.declared.Run.{Run}
 use Rattle.run.specs.declared.Report.{Report}
 use Rattle.run.specs.Calls.{tableRules, entryRules, moveRules, reportRules, rule17, rule18, rule19, nextMove, nextRun, reportOf}
 use Rattle.run.specs.Book.{Book, Call, asks, reports, Answer, reported, Mover, Moment, Issue, opened, byTable, atEnd, isOpen, refusalOf}
 use Rattle.run.specs.Book.{made, pointAfter, isAccepted, turned, noted, answer, moments, answers, issuedBy, issued}
-use Rattle.run.specs.Promises.{agree, rightly, neverShut, everyIssue, wasOpen, ofCarries, foundParts, carriedPoint, fewSilent, Keeps, Promises}
+use Rattle.run.specs.Promises.{agree, rightly, neverShut, everyIssue, wasOpen, ofCarries, foundParts, carriedPoint, fewSilent, neverOverfull, Keeps, Promises}
 use Rattle.run.proofs.CallsByValue.{runAfter, runAnswer, runAnswers, chain-answers}
 use Rattle.simulation.specs.Simulation.{Position}
 use Rattle.simulation.proofs.CellMachine.{open-position}
 use Rattle.simulation.proofs.BookBySingles.{book-is}
 
--- every entry other than 0 is open; a silent one leads to such an entry, nearer by rank; one that carries leads to such
--- entries, whatever the outcome
+-- every entry other than 0 is open, and stands where no station is overfull; a silent one leads to such an entry, nearer by
+-- rank; one that carries leads to such entries, whatever the outcome
 pub record ClosedTable (c : Cell) (r : Recipe) (z : Sizes) (table : List ℕ) (rank : ℕ → Configuration → ℕ) : Type 0 where
+  pub none-overfull :
+      (p : ℕ) (a : Configuration)
+      → Position z p a
+      → (entryOf z table p a ≡ 0 → ⊥)
+      → noneOverfull c a ≡ true
   pub opened :
       (p : ℕ) (a : Configuration)
       → Position z p a
@@ -82,9 +89,9 @@ parts-there :
     (c : Cell) (r : Recipe) (p : ℕ) (x : Choice) (ls : ℕ → ℕ) (a : Configuration)
     → carries c r p x ls a ≡ true
     → (present c r p ls a && cond (eqb (kindOf r p) 1) (free r p a) true) ≡ true
-unfolding carries
-parts-there c r p x ls a =
-    decide (eqb (kindOf r p) 1) (eqb (kindOf r p) 2) (isStep c a x) (matches c r p x ls) (present c r p ls a) (free r p a)
+unfolding suits
+parts-there c r p x ls a able =
+    decide (eqb (kindOf r p) 1) (eqb (kindOf r p) 2) (isStep c a x) (matches c r p x ls) (present c r p ls a) (free r p a) (carry-suits c r p x ls a able)
   where
     decide : (s t i m n f : Bool) → (i && (m && (n && cond s f t))) ≡ true → (n && cond s f true) ≡ true
     decide true t i m n f e = and-right m (n && f) (and-right i _ e)
@@ -187,10 +194,12 @@ module _ (c : Cell) (r : Recipe) (b : Book) (e : ℕ) (able : isOpen c r b e ≡
   keeps-more :
       (z : Sizes) (call : Call) (later : List Moment)
       → turned c r b e call .q < z .joint * z .ways
+      → noneOverfull c (b .configuration) ≡ true
+      → noneOverfull c (turned c r b e call .configuration) ≡ true
       → Keeps c r z (turned c r b e call .point) later
       → Keeps c r z (b .point) (record { book = b; move = e; call = call } ∷ later)
-  unfolding every fewSilent answers issued
-  keeps-more z call later few rest =
+  unfolding every fewSilent neverOverfull answers issued
+  keeps-more z call later few room room-after rest =
       record {
         refused-at-ends = rw (refuses-rightly call) (rest .refused-at-ends);
         never-shut = rw (not-shut call) (rest .never-shut);
@@ -198,6 +207,7 @@ module _ (c : Cell) (r : Recipe) (b : Book) (e : ℕ) (able : isOpen c r b e ≡
         parts-found = issues-on (ofCarries (foundParts c r)) call (issued c r later) found-parts (rest .parts-found);
         points-followed = issues-on (ofCarries (carriedPoint c r)) call (issued c r later) carried-point (rest .points-followed);
         silent-few = rw (lt-ltb _ _ few) (rest .silent-few);
+        none-overfull = rw (room, room-after) (rest .none-overfull);
       }
 
 -- a book at an entry other than 0, with enough silent moves left for it
@@ -243,6 +253,9 @@ module _
 
       entry-opens : opens c r (b .point) (b .configuration) entry ≡ true
       entry-opens = closed .opened (b .point) (b .configuration) (here .position) (here .alive)
+
+      roomy : noneOverfull c (b .configuration) ≡ true
+      roomy = closed .none-overfull (b .point) (b .configuration) (here .position) (here .alive)
 
       able : isOpen c r b entry ≡ true
       able = book-is c r z K .open-is b entry ∙ entry-opens
@@ -336,14 +349,14 @@ module _
           → Keeps c r z (b .point) (moments c r mover accepted b calls)
       unfolding moments every everyIssue answers issued
       closed-keeps [] accepted b met here =
-          record { refused-at-ends = refl; never-shut = refl; moves-open = refl; parts-found = refl; points-followed = refl; silent-few = refl }
+          record { refused-at-ends = refl; never-shut = refl; moves-open = refl; parts-found = refl; points-followed = refl; silent-few = refl; none-overfull = refl }
       closed-keeps (call ∷ calls) accepted b met here =
           let e : ℕ = entryOf z table (b .point) (b .configuration) in
           let on : Within z table rank (turned c r b e call) = turned-within b here call in
           let rest : Keeps c r z (turned c r b e call .point)
           (moments c r mover (noted c r b e call accepted) (turned c r b e call) calls) =
           closed-keeps calls (noted c r b e call accepted) (turned c r b e call) (turned-met accepted b here call met) on in
-          rw (follows .names accepted b met) (keeps-more c r b e (able b here) z call _ (omega (arith, on .few)) rest)
+          rw (follows .names accepted b met) (keeps-more c r b e (able b here) z call _ (omega (arith, on .few)) (roomy b here) (roomy _ on) rest)
 
 -- the run at the book's position
 abbrev runAt : Book → Run

@@ -17,6 +17,7 @@ use Rattle.positions.specs.declared.Sizes.{Sizes}
 use Rattle.positions.specs.Checked.{Checked}
 use Rattle.positions.specs.Position.{positionOf, pointAt, configurationAt, entryOf}
 use Rattle.positions.proofs.CheckedSizes.{checked-fits}
+use Rattle.steps.specs.Limits.{noneOverfull}
 use Rattle.steps.specs.Effect.{Effect, shut, silent, carried, ended, effect, isMove, opens, leadsTo}
 use Rattle.steps.proofs.Effects.{is-open}
 use Rattle.simulation.specs.Simulation.{Position}
@@ -40,7 +41,7 @@ leadsOn r z table ranks p a e ended = true
 unfoldable pub closedAt : Cell → Recipe → Sizes → List ℕ → List ℕ → ℕ → Configuration → Bool
 closedAt c r z table ranks p a =
     let e = entryOf z table p a in
-    eqb e 0 || (ltb (rankOf z ranks p a) (z .joint * z .ways) && leadsOn r z table ranks p a e (effect c r p a e))
+    eqb e 0 || (noneOverfull c a && (ltb (rankOf z ranks p a) (z .joint * z .ways) && leadsOn r z table ranks p a e (effect c r p a e)))
 
 -- the whole table
 unfoldable pub isClosed : Cell → Recipe → Sizes → List ℕ → List ℕ → Bool
@@ -49,6 +50,7 @@ isClosed c r z table ranks =
 
 -- what the test shows of a position that has an entry
 record Closes (c : Cell) (r : Recipe) (z : Sizes) (table ranks : List ℕ) (p : ℕ) (a : Configuration) : Type 0 where
+  room : noneOverfull c a ≡ true
   ranked : rankOf z ranks p a < z .joint * z .ways
   on : leadsOn r z table ranks p a (entryOf z table p a) (effect c r p a (entryOf z table p a)) ≡ true
 
@@ -75,9 +77,9 @@ module _
     unfolding closedAt
     closes p a valid some =
         let e : ℕ = entryOf z table p a in
-        let all : (ltb (rankOf z ranks p a) (z .joint * z .ways) && leadsOn r z table ranks p a e (effect c r p a e)) ≡ true =
+        let all : (noneOverfull c a && (ltb (rankOf z ranks p a) (z .joint * z .ways) && leadsOn r z table ranks p a e (effect c r p a e))) ≡ true =
         second (eqb e 0) _ (closed-everywhere p a valid) (ne-eqb _ 0 some) in
-        record { ranked = ltb-true _ _ (search and-left); on = search and-right }
+        record { room = search and-left; ranked = ltb-true _ _ (search (and-left, and-right)); on = search (and-left, and-right) }
 
     module _ (p : ℕ) (a : Configuration) (valid : Position z p a) (some : entryOf z table p a ≡ 0 → ⊥) where
       abbrev entry : ℕ
@@ -116,6 +118,7 @@ module _
     pub closed-table : ClosedTable c r z table (rankOf z ranks)
     closed-table =
         record {
+          none-overfull = λ p a valid some. closes p a valid some .room;
           opened = opened;
           silent-on = silent-on;
           carry-on = carry-on;

@@ -1,5 +1,6 @@
 -- The method over any machine (Machine, LostNeverHeld, ClosedSet, Stages) and the cell and the recipe as one (CellMachine);
--- joint steps part by part and as single moves (PortPairs, StepInParts, CarryInParts, SinglePaths, StepIsPath, JointIsSingle);
+-- joint steps part by part and as single moves (PortPairs, StepInParts, CarriedLoads, CarryInParts,
+-- SinglePaths, StepIsPath, JointIsSingle);
 -- what the book does (BookBySingles), closed tables (ClosedTablePromises), rules (LostBreaksRules, TableRule); certificates that
 -- the checker computes (NumberedPositions, StageTest, StageListSound, ClosedTableTest).
 pub mod Machine
@@ -9,6 +10,7 @@ pub mod Stages
 pub mod CellMachine
 pub mod PortPairs
 pub mod StepInParts
+mod CarriedLoads
 pub mod CarryInParts
 pub mod SinglePaths
 pub mod StepIsPath

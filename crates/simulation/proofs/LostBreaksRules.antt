@@ -1,8 +1,8 @@
--- From a lost position every rule breaks a promise for some list of calls: in the end its move is shut, or its silent moves
--- number J × W in a row.
+-- From a lost position every rule breaks a promise for some list of calls: a station is overfull there, or in the end its move is
+-- shut, or its silent moves number J × W in a row.
 -- Assumes nothing.
 use mathlib.Core.Path.{_≡_, refl, sym, _∙_}
-use mathlib.Core.Bool.{Bool, true, false, cond}
+use mathlib.Core.Bool.{Bool, true, false, cond, true≢false}
 use mathlib.Core.List.{List, [], _∷_}
 use Prim.Native.Nat.{ℕ, zero, suc, _+_, _*_, _≤_}
 use native.Mathlib.Omega.{arith}
@@ -16,14 +16,15 @@ use Rattle.positions.specs.declared.Configuration.{Configuration}
 use Rattle.positions.specs.declared.Sizes.{Sizes}
 use Rattle.positions.specs.Checked.{Checked}
 use Rattle.steps.specs.Lines.{kindOf}
+use Rattle.steps.specs.Limits.{noneOverfull}
 use Rattle.steps.specs.Entry.{entryKind}
 use Rattle.steps.specs.Effect.{Effect, shut, silent, carried, ended, effect, isMove, opens, leaves, makes, leadsTo}
 use Rattle.steps.proofs.Effects.{read-silent, read-carried, read-ended, is-open, makes-is, leads-silent}
 use Rattle.run.specs.Book.{Book, Call, asks, reports, opened, atEnd, isOpen, refusalOf, isAccepted, made, turned, noted, answer, moments, answers}
-use Rattle.run.specs.Promises.{neverShut, fewSilent, Rule}
+use Rattle.run.specs.Promises.{neverShut, fewSilent, neverOverfull, Rule}
 use Rattle.simulation.specs.Simulation.{Position}
 use Rattle.simulation.specs.Rule.{Breaks}
-use Rattle.simulation.proofs.Machine.{goes, SilentWay, here, then, Lost, lost}
+use Rattle.simulation.proofs.Machine.{goes, SilentWay, here, then, Lost, barred, lost}
 use Rattle.simulation.proofs.BookBySingles.{BookIs}
 use Rattle.simulation.proofs.CellMachine.{kindIn, machineOf, kind-finish, goes-leads, laws}
 
@@ -39,6 +40,7 @@ module _ (c : Cell) (r : Recipe) (z : Sizes) (rule : Rule) where
     broken :
         every neverShut (answers c r (moments c r (λ accepted d. rule accepted) h b calls)) ≡ true
         → every (fewSilent c r z) (moments c r (λ accepted d. rule accepted) h b calls) ≡ true
+        → every (neverOverfull c r) (moments c r (λ accepted d. rule accepted) h b calls) ≡ true
         → ⊥
 
   -- too many silent moves, for which any call will do
@@ -47,9 +49,18 @@ module _ (c : Cell) (r : Recipe) (z : Sizes) (rule : Rule) where
   idle-fails h b many =
       record {
         calls = asks ∷ [];
-        broken = λ shut-never few.
+        broken = λ shut-never few room.
             let wrong : false ≡ true = sym (le-ltb (b .q) (z .joint * z .ways) many) ∙ and-left _ _ few in
             let y : _≡_ {A = ℕ} 0 1 = cc in omega arith;
+      }
+
+  -- a station that is overfull, for which any call will do too
+  full-fails : (h : List ℕ) (b : Book) → noneOverfull c (b .configuration) ≡ false → Fails h b
+  unfolding moments every neverOverfull
+  full-fails h b full =
+      record {
+        calls = asks ∷ [];
+        broken = λ shut-never few room. true≢false (sym (and-left _ _ (and-left _ _ room)) ∙ full);
       }
 
   -- a move that is shut, for which the next-move call is refused
@@ -58,7 +69,7 @@ module _ (c : Cell) (r : Recipe) (z : Sizes) (rule : Rule) where
   shut-fails h b closed =
       record {
         calls = asks ∷ [];
-        broken = λ shut-never few.
+        broken = λ shut-never few room.
             let z : false ≡ true = rw closed at shut-never in
             let y : _≡_ {A = ℕ} 0 1 = cc in omega arith;
       }
@@ -82,9 +93,10 @@ module _ (c : Cell) (r : Recipe) (z : Sizes) (rule : Rule) where
   next-fails h b outcome passes later =
       record {
         calls = reports outcome ∷ later .calls;
-        broken = λ shut-never few.
+        broken = λ shut-never few room.
             let is = next-moments h b outcome (later .calls) passes in
-            later .broken (rest neverShut _ _ (rw is at shut-never)) (rest (fewSilent c r z) _ _ (rw is at few));
+            later .broken (rest neverShut _ _ (rw is at shut-never)) (rest (fewSilent c r z) _ _ (rw is at few))
+            (rest (neverOverfull c r) _ _ (rw is at room));
       }
 
 module _ (c : Cell) (r : Recipe) (z : Sizes) (K : Checked c r z) (is : BookIs c r z) (rule : Rule) where
@@ -154,6 +166,7 @@ module _ (c : Cell) (r : Recipe) (z : Sizes) (K : Checked c r z) (is : BookIs c 
       → Lost (machineOf c r z) p a
       → Fails c r z rule h (opened p a)
   unfolding opened leaves isMove
+  lost-fails p a h valid (barred full) = full-fails c r z rule h _ full
   lost-fails p a h valid (lost some outcome later) =
       chase p a (λ done. some (kind-finish r p done))
       (λ b passed failed q g way there e.
@@ -196,4 +209,4 @@ pub lost-rule-breaks :
     → Breaks c r z p a rule
 lost-rule-breaks c r z K is p a valid gone rule =
     let found : Fails c r z rule [] (opened p a) = lost-fails c r z K is rule p a [] valid gone in
-    record { calls = found .calls; broken = λ kept. found .broken (kept .never-shut) (kept .silent-few) }
+    record { calls = found .calls; broken = λ kept. found .broken (kept .never-shut) (kept .silent-few) (kept .none-overfull) }

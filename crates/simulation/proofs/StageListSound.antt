@@ -54,9 +54,9 @@ module _ (c : Cell) (r : Recipe) (z : Sizes) (stages : List ℕ) (K : Checked c 
   are-stages : Stages (machineOf c r z) (stageOf z stages)
   are-stages =
       record {
-        going = λ p a here high done. stages-hold c r z stages K good p a here high .going (finish-kind r p done);
-        quiet = λ p a b e here high is. no-more _ _ (stages-hold c r z stages K good p a here high .quiet e b is);
-        carry = λ p a d f e here high is. carry-falls p a d f e (stages-hold c r z stages K good p a here high) is;
+        going = λ p a here fit high done. stages-hold c r z stages K good p a here fit high .going (finish-kind r p done);
+        quiet = λ p a b e here fit high is. no-more _ _ (stages-hold c r z stages K good p a here fit high .quiet e b is);
+        carry = λ p a d f e here fit high is. carry-falls p a d f e (stages-hold c r z stages K good p a here fit high) is;
       }
 
   -- a position of a stage above 0 is lost

@@ -3,7 +3,7 @@
 -- Assumes nothing.
 use mathlib.Core.Path.{_≡_, refl, sym, ap, _∙_}
 use mathlib.Core.Logic.{_⊎_, inl, inr, ⊎-elim}
-use mathlib.Core.Bool.{Bool, true, false, not, _&&_, _||_}
+use mathlib.Core.Bool.{Bool, true, false, not, _&&_, _||_, true≢false}
 use mathlib.Core.List.{List}
 use Prim.Native.Nat.{ℕ, _+_, _*_, _<_}
 use native.Mathlib.Omega.{arith}
@@ -21,6 +21,7 @@ use Rattle.positions.specs.Checked.{Checked}
 use Rattle.positions.specs.Position.{positionOf, pointAt, configurationAt}
 use Rattle.positions.proofs.CheckedSizes.{checked-fits}
 use Rattle.steps.specs.Lines.{linesOf, kindOf, thenOf, elseOf}
+use Rattle.steps.specs.Limits.{noneOverfull}
 use Rattle.steps.specs.Entry.{entryKind, letter, isFormed}
 use Rattle.steps.specs.Effect.{Effect, shut, silent, carried, ended, effect}
 use Rattle.steps.proofs.Effects.{read-silent, read-carried, formed-kind}
@@ -60,14 +61,14 @@ movesStaged c r z stages p a =
 unfoldable pub positionStaged : Cell → Recipe → Sizes → List ℕ → ℕ → Configuration → Bool
 positionStaged c r z stages p a =
     eqb (stageOf z stages p a) 0
-    || (not (eqb (kindOf r p) 0) && (eqb (linesOf r p) 1 && movesStaged c r z stages p a))
+    || (not (noneOverfull c a) || (not (eqb (kindOf r p) 0) && (eqb (linesOf r p) 1 && movesStaged c r z stages p a)))
 
 -- the whole list
 unfoldable pub areStages : Cell → Recipe → Sizes → List ℕ → Bool
 areStages c r z stages =
     allBelow (λ m. positionStaged c r z stages (pointAt z m) (configurationAt z m)) (z .positions)
 
--- what the test shows of a position of a stage above 0
+-- what the test shows of a position of a stage above 0 without an overfull station
 pub record Staged (c : Cell) (r : Recipe) (z : Sizes) (stages : List ℕ) (p : ℕ) (a : Configuration) : Type 0 where
   pub going : kindOf r p ≡ 0 → ⊥
   pub quiet :
@@ -111,13 +112,13 @@ module _ (c : Cell) (r : Recipe) (z : Sizes) (stages : List ℕ) (p : ℕ) (a : 
           rw (at .1)
           (all-at (λ l. staysStaged c r z stages p a (50331648 + l)) (c .count) (letter e 0) (search (and-left, and-right)) (at .0))
 
-  tested : positionStaged c r z stages p a ≡ true → 0 < stageOf z stages p a → Staged c r z stages p a
+  tested : positionStaged c r z stages p a ≡ true → noneOverfull c a ≡ true → 0 < stageOf z stages p a → Staged c r z stages p a
   unfolding positionStaged staysStaged keepsStage
-  tested good high =
+  tested good fit high =
       let most : (not (eqb (kindOf r p) 0) && (eqb (linesOf r p) 1 && movesStaged c r z stages p a)) ≡ true =
       ⊎-elim
       (λ (e : eqb (stageOf z stages p a) 0 ≡ true). absurd (none (eqb-true _ 0 e)))
-      (λ h. h)
+      (λ h. ⊎-elim (λ full. absurd (true≢false (sym fit ∙ not-true _ full))) (λ g. g) (or-cases (not (noneOverfull c a)) _ h))
       (or-cases (eqb (stageOf z stages p a) 0) _ good) in
       let some : kindOf r p ≡ 0 → ⊥ = eqb-false _ 0 (not-true _ (and-left _ _ most)) in
       let one : linesOf r p ≡ 1 = eqb-true _ 1 (search (and-left, and-right)) in
@@ -155,14 +156,16 @@ pub stages-hold :
     → areStages c r z stages ≡ true
     → (p : ℕ) (a : Configuration)
     → Position z p a
+    → noneOverfull c a ≡ true
     → 0 < stageOf z stages p a
     → Staged c r z stages p a
 unfolding areStages
-stages-hold c r z stages K good p a valid high =
+stages-hold c r z stages K good p a valid fit high =
     tested c r z stages p a
     (by-number z (checked-fits c r z K) (λ q b. positionStaged c r z stages q b ≡ true)
     (λ m low. all-at (λ n. positionStaged c r z stages (pointAt z n) (configurationAt z n)) (z .positions) m good low)
     p
     a
     valid)
+    fit
     high

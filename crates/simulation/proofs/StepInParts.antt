@@ -1,21 +1,24 @@
 -- A port-closed part of a joint step, and then the rest of it, is open and ends in the same configuration.
 -- Assumes nothing.
-use mathlib.Core.Path.{_≡_, refl, sym, ap, _∙_}
-use mathlib.Core.Bool.{Bool, true, false, cond, not}
+use mathlib.Core.Path.{_≡_, refl, sym, ap, subst, _∙_}
+use mathlib.Core.Bool.{Bool, true, false, cond, not, true≢false}
 use Prim.Native.Nat.{ℕ, zero, suc, _<_, _≤_}
 use native.Mathlib.Omega.{arith}
+use lib.ListN.{getD}
 use lib.Dec.{eqb}
-use borrow.Author.Tests.{eq-eqb}
+use borrow.Author.Tests.{eq-eqb, ne-eqb}
 use Rattle.refusals.specs.declared.Verdict.the-variants.{Accepted}
-use Rattle.refusals.proofs.EveryBelow.{all-by, all-at, any-none}
+use Rattle.refusals.proofs.EveryBelow.{all-by, all-at, any-none, count-same}
 use Rattle.refusals.proofs.TabulatedLists.{tabulate-at, tabulate-same}
 use Rattle.refusals.proofs.Verdicts.{and-left}
 use Rattle.cell.specs.declared.Cell.{Cell}
 use Rattle.cell.specs.Rules.{checkCell}
 use Rattle.positions.specs.declared.Configuration.{Configuration}
 use Rattle.steps.specs.Lines.{actOf, argOf, stateOf, placeOf}
+use Rattle.steps.specs.Limits.{load, noneOverfull}
 use Rattle.steps.specs.Joint.{Choice, rests, mayDo, acts, actsOn, isStep, isSilent, stateAfter, handed, placeAfter, after}
 use Rattle.steps.proofs.ReadyLines.{both}
+use Rattle.steps.proofs.StationLoads.{room-at, room-by}
 use Rattle.steps.proofs.MadeConfiguration.{join}
 use Rattle.simulation.proofs.PortPairs.{Paired, paired-fits, receives, step-paired}
 
@@ -158,6 +161,10 @@ part-keeps c x s k e = rw (part-out x s k e)
 negated : (s : ℕ → Bool) (k : ℕ) → s k ≡ true → not (s k) ≡ false
 negated s k e = rw e
 
+-- two resources of which one is in s are not the same
+differ : (s : ℕ → Bool) (k i : ℕ) → k ≡ i → s k ≡ true → s i ≡ false → ⊥
+differ s k i e f g = true≢false (sym f ∙ ap s e ∙ g)
+
 -- what a resource may do depends on its state alone
 pub may-same : (c : Cell) (a b : Configuration) (k u : ℕ) → stateOf a k ≡ stateOf b k → mayDo c a k u ≡ true → mayDo c b k u ≡ true
 unfolding mayDo
@@ -242,3 +249,61 @@ module _
         (tabulate-same (λ q. placeAfter c (rest x s) (placeOf (after c (part x s) a) q))
         (λ q. placeAfter c x (placeOf a q)) 8
         (λ q low. ap (placeAfter c (rest x s)) (after-place q low) ∙ places-parted (placeOf a q) (most q low)))
+
+    -- where a part goes that was at place v: as in the whole step if its resource is in s, else nowhere
+    part-place : (v k : ℕ) → v ≤ 6 → k < 6 → eqb (placeAfter c (part x s) v) (suc k) ≡ cond (s k) (eqb (placeAfter c x v) (suc k)) (eqb v (suc k))
+    unfolding placeAfter
+    part-place zero k most low = either (s k)
+      where
+        either : (b : Bool) → eqb 0 (suc k) ≡ cond b (eqb 0 (suc k)) (eqb 0 (suc k))
+        either true = refl
+        either false = refl
+    part-place (suc i) k most low = decide (s i) refl
+      where
+        there : Lands c x paired s closed i
+        there = lands c x paired s closed i most
+
+        decide : (b : Bool) → s i ≡ b
+            → eqb (placeAfter c (part x s) (suc i)) (suc k) ≡ cond (s k) (eqb (placeAfter c x (suc i)) (suc k)) (eqb (suc i) (suc k))
+        decide true e = rw (there .part-does e, there .is) (at (s k) refl)
+          where
+            at : (b : Bool) → s k ≡ b → eqb (suc (there .at)) (suc k) ≡ cond b (eqb (suc (there .at)) (suc k)) (eqb (suc i) (suc k))
+            at true f = refl
+            at false f =
+                ne-eqb _ _ (λ (g : suc (there .at) ≡ suc k). differ s (there .at) k (omega arith) (sym (there .same) ∙ e) f)
+                ∙ sym (ne-eqb _ _ (λ (g : suc i ≡ suc k). differ s i k (omega arith) e f))
+        decide false e = rw (part-keeps c x s i e, there .is) (at (s k) refl)
+          where
+            at : (b : Bool) → s k ≡ b → eqb (suc i) (suc k) ≡ cond b (eqb (suc (there .at)) (suc k)) (eqb (suc i) (suc k))
+            at false f = refl
+            at true f =
+                ne-eqb _ _ (λ (g : suc i ≡ suc k). differ s k i (omega arith) f e)
+                ∙ sym (ne-eqb _ _ (λ (g : suc (there .at) ≡ suc k). differ s k (there .at) (omega arith) f (sym (there .same) ∙ e)))
+
+    -- so a resource in s holds what it holds after the step, and any other what it held
+    pub part-load : ((q : ℕ) → q < 8 → placeOf a q ≤ 6) → (k : ℕ) → k < 6
+        → load (after c (part x s) a .place) k ≡ cond (s k) (load (after c x a .place) k) (load (a .place) k)
+    unfolding load after
+    part-load most k low = decide (s k) refl
+      where
+        moved : (b : Bool) → s k ≡ b → (q : ℕ) → q < 8
+            → eqb (placeOf (after c (part x s) a) q) (suc k) ≡ cond b (eqb (placeAfter c x (placeOf a q)) (suc k)) (eqb (placeOf a q) (suc k))
+        moved b f q less = ap (λ (v : ℕ). eqb v (suc k)) (after-place q less) ∙ rw (← f) (part-place (placeOf a q) k (most q less) low)
+
+        decide : (b : Bool) → s k ≡ b → load (after c (part x s) a .place) k ≡ cond b (load (after c x a .place) k) (load (a .place) k)
+        decide true f =
+            count-same (λ q. eqb (placeOf (after c (part x s) a) q) (suc k)) (λ q. eqb (placeOf (after c x a) q) (suc k)) 8
+            (λ q less. moved true f q less ∙ ap (λ (v : ℕ). eqb v (suc k)) (sym (tabulate-at (λ q. placeAfter c x (placeOf a q)) 8 q less)))
+        decide false f =
+            count-same (λ q. eqb (placeOf (after c (part x s) a) q) (suc k)) (λ q. eqb (placeOf a q) (suc k)) 8 (moved false f)
+
+    -- where no station is overfull before and after the step, none is between
+    pub part-room : ((q : ℕ) → q < 8 → placeOf a q ≤ 6) → noneOverfull c a ≡ true → noneOverfull c (after c x a) ≡ true
+        → noneOverfull c (after c (part x s) a) ≡ true
+    part-room most before later =
+        room-by c (after c (part x s) a)
+        (λ k low. subst (λ (n : ℕ). n ≤ getD (c .limits) k 0) (sym (part-load most k low)) (either k (s k) (room-at c (after c x a) later k low) (room-at c a before k low)))
+      where
+        either : (k : ℕ) (b : Bool) {m n : ℕ} → m ≤ getD (c .limits) k 0 → n ≤ getD (c .limits) k 0 → cond b m n ≤ getD (c .limits) k 0
+        either k true first second = first
+        either k false first second = second

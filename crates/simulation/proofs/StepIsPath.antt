@@ -19,19 +19,21 @@ use Rattle.positions.specs.declared.Configuration.{Configuration}
 use Rattle.positions.specs.declared.Sizes.{Sizes}
 use Rattle.positions.specs.Checked.{Checked}
 use Rattle.steps.specs.Lines.{actOf, argOf, stateOf, placeOf, kindOf, thenOf, elseOf}
+use Rattle.steps.specs.Limits.{noneOverfull}
 use Rattle.steps.specs.Joint.{Choice, rests, takes, acts, actsOn, isStep, isSilent, isSilentStep, stateAfter, handed, placeAfter, after}
 use Rattle.steps.specs.Carry.{carries, afterCarry}
 use Rattle.steps.specs.Effect.{silent, carried, effect}
 use Rattle.steps.proofs.PointLines.{PointLines, point-lines}
-use Rattle.steps.proofs.ReadyLines.{both, may-low, step-may}
+use Rattle.steps.proofs.ReadyLines.{may-low, step-may}
+use Rattle.steps.proofs.StationLoads.{silent-steps, silent-quiet, silent-room, silent-by}
 use Rattle.steps.proofs.SilentEntries.{internal-entry, transfer-entry}
 use Rattle.steps.proofs.CarryEntries.{CarryFor, carry-entry}
 use Rattle.steps.proofs.MadeConfiguration.{join}
 use Rattle.simulation.specs.Simulation.{Position}
 use Rattle.simulation.proofs.CellMachine.{position-point, position-places}
 use Rattle.simulation.proofs.PortPairs.{Paired, step-paired}
-use Rattle.simulation.proofs.StepInParts.{part, rest, Closed, part-out, part-rests, rest-in, rest-out, part-silent, part-step, rest-step, parted-after}
-use Rattle.simulation.proofs.CarryInParts.{NoOperation, carry-part-step, carry-part-silent, rest-carries, parted-carry}
+use Rattle.simulation.proofs.StepInParts.{part, rest, Closed, part-out, part-rests, rest-in, rest-out, part-silent, part-step, rest-step, parted-after, part-room}
+use Rattle.simulation.proofs.CarryInParts.{NoOperation, carry-part-step, carry-part-silent, part-carry-room, rest-carries, parted-carry}
 use Rattle.simulation.proofs.SinglePaths.{Singly, stay, move, SingleCarry, singly-stays, carry-then, carry-else}
 
 -- all resources but k and i
@@ -148,12 +150,12 @@ rested c a x six eight most quiet =
     still (suc k) low = rw (quiet k low)
 
 module _ (c : Cell) (r : Recipe) (p : ℕ) (z : Sizes) (K : Checked c r z) (some : kindOf r p ≡ 0 → ⊥) (a : Configuration)
-    (here : Position z p a) where
+    (here : Position z p a) (fit : noneOverfull c a ≡ true) where
   ok : checkCell c ≡ Accepted
   ok = K .cell-passes
 
   -- a path to where all but one line, or all but two, are taken goes on with those
-  module _ (x : Choice) (step : isStep c a x ≡ true) where
+  module _ (x : Choice) (step : isStep c a x ≡ true) (room : noneOverfull c (after c x a) ≡ true) where
     last-one :
         (k l : ℕ)
         → k < 6
@@ -169,11 +171,11 @@ module _ (c : Cell) (r : Recipe) (p : ℕ) (z : Sizes) (K : Checked c r z) (some
         let takes-it : rest x s k ≡ takes l = rest-out x s k (but-first k k) ∙ chosen in
         let others : (i : ℕ) → i < 6 → (i ≡ k → ⊥) → rest x s i ≡ rests = λ i less ne. rest-in x s i (but-other k k i ne ne) in
         let may : isStep c b (rest x s) ≡ true = rest-step c ok a x step s closed in
+        let ends : after c (rest x s) b ≡ after c x a = parted-after c ok a x step s closed (position-places c r z K p a here) in
         let does : effect c r p b (16777216 + l) ≡ silent (after c (rest x s) b) =
-        internal-entry c r p b (rest x s) ok may some (mid .six) (mid .eight) (position-places c r z K p b mid)
+        internal-entry c r p b (rest x s) ok may (ap (noneOverfull c) ends ∙ room) some (mid .six) (mid .eight) (position-places c r z K p b mid)
         k l low takes-it internal others in
-        move path
-        (record { entry = 16777216 + l; does = does ∙ ap silent (parted-after c ok a x step s closed (position-places c r z K p a here)) })
+        move path (record { entry = 16777216 + l; does = does ∙ ap silent ends })
 
     last-two :
         (port k i : ℕ)
@@ -195,15 +197,12 @@ module _ (c : Cell) (r : Recipe) (p : ℕ) (z : Sizes) (K : Checked c r z) (some
         let gets : rest x s i ≡ takes (get .line) = rest-out x s i (but-second k i) ∙ get .chosen in
         let others : (n : ℕ) → n < 6 → (n ≡ k → ⊥) → (n ≡ i → ⊥) → rest x s n ≡ rests = λ n less k-not i-not. rest-in x s n (but-other k i n k-not i-not) in
         let may : isStep c b (rest x s) ≡ true = rest-step c ok a x step s closed in
+        let ends : after c (rest x s) b ≡ after c x a = parted-after c ok a x step s closed (position-places c r z K p a here) in
         let does : effect c r p b (33554432 + send .line + 64 * get .line) ≡ silent (after c (rest x s) b) =
-        transfer-entry c r p b (rest x s) ok may some (mid .six) (mid .eight) (position-places c r z K p b mid)
+        transfer-entry c r p b (rest x s) ok may (ap (noneOverfull c) ends ∙ room) some (mid .six) (mid .eight) (position-places c r z K p b mid)
         k i (send .line) (get .line) k-low i-low sends gets
         (send .acted) (get .acted) others in
-        move path
-        (record {
-          entry = 33554432 + send .line + 64 * get .line;
-          does = does ∙ ap silent (parted-after c ok a x step s closed (position-places c r z K p a here));
-        })
+        move path (record { entry = 33554432 + send .line + 64 * get .line; does = does ∙ ap silent ends })
 
   no-operation : (x : Choice) → isSilent c x ≡ true → (k : ℕ) → k < 6 → acts c 1 (x k) ≡ false
   unfolding isSilent
@@ -216,13 +215,14 @@ module _ (c : Cell) (r : Recipe) (p : ℕ) (z : Sizes) (K : Checked c r z) (some
       → ((k : ℕ) → n ≤ k → k < 6 → x k ≡ rests)
       → isStep c a x ≡ true
       → isSilent c x ≡ true
+      → noneOverfull c (after c x a) ≡ true
       → Singly c r p a (after c x a)
 
   split : (n : ℕ) → n ≤ 6 → Splits n
   unfolding acts
-  split zero few x quiet step none =
+  split zero few x quiet step none room =
       stay (rested c a x (here .six) (here .eight) (position-places c r z K p a here) (λ k low. quiet k (omega arith) low))
-  split (suc n) few x quiet step none = decide (split n (omega arith)) (x n) refl
+  split (suc n) few x quiet step none room = decide (split n (omega arith)) (x n) refl
     where
       low : n < 6
       low = few
@@ -238,35 +238,36 @@ module _ (c : Cell) (r : Recipe) (p : ℕ) (z : Sizes) (K : Checked c r z) (some
       before earlier s out closed =
           earlier (part x s) (onward (part x s) (part-out x s n out) (λ k e. part-rests x s k e))
           (part-step c ok a x step s closed) (part-silent c x s (λ k less e. no-operation x none k less))
+          (part-room c ok a x step s closed (position-places c r z K p a here) fit room)
 
       by-act : Splits n → (l : ℕ) → x n ≡ takes l → (act : ℕ) → actOf c l ≡ act → act ≤ 3 → Singly c r p a (after c x a)
-      by-act earlier l e zero is few = last-one x step n l low e is (before earlier (allBut n n) (but-first n n) (closed-one c x n l e is))
+      by-act earlier l e zero is few = last-one x step room n l low e is (before earlier (allBut n n) (but-first n n) (closed-one c x n l e is))
       by-act earlier l e (suc zero) is few = absurd (eqb-false (actOf c l) 1 (rw e at (no-operation x none n low)) is)
       by-act earlier l e (suc (suc zero)) is few =
           let paired : Paired c x = step-paired c x ok a step in
           let into : actsOn c 2 (argOf c l) (x n) ≡ true = acts-so c x n l e 2 is in
           let one = paired .out-for (argOf c l) n low into in
-          last-two x step (argOf c l) (one .at) n (one .low) low (one .holds) into
+          last-two x step room (argOf c l) (one .at) n (one .low) low (one .holds) into
           (before earlier (allBut (one .at) n) (but-second (one .at) n)
           (closed-two c x paired (argOf c l) (one .at) n (one .low) low (one .holds) into))
       by-act earlier l e (suc (suc (suc zero))) is few =
           let paired : Paired c x = step-paired c x ok a step in
           let out : actsOn c 3 (argOf c l) (x n) ≡ true = acts-so c x n l e 3 is in
           let one = paired .in-for (argOf c l) n low out in
-          last-two x step (argOf c l) n (one .at) low (one .low) out (one .holds)
+          last-two x step room (argOf c l) n (one .at) low (one .low) out (one .holds)
           (before earlier (allBut n (one .at)) (but-first n (one .at))
           (closed-two c x paired (argOf c l) n (one .at) low (one .low) out (one .holds)))
       by-act earlier l e (suc (suc (suc (suc act)))) is few = absurd (omega arith)
 
       decide : Splits n → (u : ℕ) → x n ≡ u → Singly c r p a (after c x a)
-      decide earlier zero e = earlier x (onward x e (λ k z. z)) step none
+      decide earlier zero e = earlier x (onward x e (λ k z. z)) step none room
       decide earlier (suc l) e =
           by-act earlier l e (actOf c l) refl (line-in-range c (each-accepts c ok .fourth) l (may-low c a n l (step-may c a x n l step low e)) .act)
 
   -- a silent joint step is a path of single moves
   pub silent-split : (x : Choice) → isSilentStep c a x ≡ true → Singly c r p a (after c x a)
-  unfolding isSilentStep isSilent
-  silent-split x step = split 6 (omega arith) x (λ k least less. absurd (omega arith)) (and-left _ _ step) (and-right (isStep c a x) _ step)
+  silent-split x step =
+      split 6 (omega arith) x (λ k least less. absurd (omega arith)) (silent-steps c a x step) (silent-quiet c a x step) (silent-room c a x step)
 
   pub silent-stays : (x : Choice) → isSilentStep c a x ≡ true → Position z p (after c x a)
   silent-stays x step = singly-stays c r p z K here (silent-split x step)
@@ -315,28 +316,30 @@ calm-rest c x k l chosen = decide (acts c 1 (x k)) refl
 
 module _
     (c : Cell) (r : Recipe) (p : ℕ) (z : Sizes) (K : Checked c r z) (some : kindOf r p ≡ 0 → ⊥)
-    (a : Configuration) (here : Position z p a)
+    (a : Configuration) (here : Position z p a) (fit : noneOverfull c a ≡ true)
     (x : Choice) (ls : ℕ → ℕ) (carrying : carries c r p x ls a ≡ true)
   where
     -- a joint step that carries the point is a path of single moves and a carry
     pub carry-split : SingleLeads c r p a (afterCarry c r p x ls 1 a) (afterCarry c r p x ls 0 a)
-    unfolding isSilentStep isSilent
     carry-split =
         let ok = K .cell-passes in
+        let most = position-places c r z K p a here in
         let s : ℕ → Bool = calm c x in
         let closed : Closed c x s = calm-closed c x in
         let none : NoOperation c x s = λ k low e. calm-not c x k e in
         let b : Configuration = after c (part x s) a in
         let path : Singly c r p a b =
-        silent-split c r p z K some a here (part x s)
-        (both _ _ (carry-part-step c ok r p a x ls carrying s closed) (carry-part-silent c ok r p a x ls carrying s closed none)) in
+        silent-split c r p z K some a here fit (part x s)
+        (silent-by c a (part x s) (carry-part-step c ok r p a x ls carrying s closed)
+        (carry-part-silent c ok r p a x ls carrying s closed none)
+        (part-carry-room c ok r p a x ls carrying s closed none most fit)) in
         let mid : Position z p b = singly-stays c r p z K here path in
-        let left : carries c r p (rest x s) ls b ≡ true = rest-carries c ok r p a x ls carrying s closed none in
+        let left : carries c r p (rest x s) ls b ≡ true = rest-carries c ok r p a x ls carrying s closed none most in
         let alone : (k l : ℕ) → k < 6 → rest x s k ≡ takes l → actOf c l ≡ 1 = λ k l low chosen. calm-rest c x k l chosen in
         let entry : CarryFor c r p b (afterCarry c r p (rest x s) ls 1 b) (afterCarry c r p (rest x s) ls 0 b) =
         carry-entry c r p b (rest x s) ls ok left (lines .few) alone (mid .six) (mid .eight) (position-places c r z K p b mid) in
         let same : (outcome : ℕ) → afterCarry c r p (rest x s) ls outcome b ≡ afterCarry c r p x ls outcome a =
-        λ outcome. parted-carry c ok r p a x ls carrying s closed none outcome (position-places c r z K p a here) in
+        λ outcome. parted-carry c ok r p a x ls carrying s closed none outcome most in
         record { before = b; singly = path; carry = record { entry = entry .entry; does = entry .does ∙ (λ i. carried (same 1 i) (same 0 i)) } }
       where
         lines : PointLines r p

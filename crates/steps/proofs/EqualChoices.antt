@@ -16,7 +16,7 @@ use Rattle.recipe.specs.declared.Recipe.{Recipe}
 use Rattle.positions.specs.declared.Configuration.{Configuration}
 use Rattle.steps.specs.Lines.{resourceOf, argOf, stateOf, placeOf, firstLineOf, linesOf, lineOf, isTaken}
 use Rattle.steps.specs.Joint.{Choice, mayDo, acts, actsOn, howMany, portFits, isStep, stateAfter, receiver, handed, placeAfter, after}
-use Rattle.steps.specs.Carry.{serves, matches, standsAt, present, carries, putThere, placed, partsMoved, afterCarry}
+use Rattle.steps.specs.Carry.{serves, matches, standsAt, present, suits, putThere, placed, partsMoved, afterCarry}
 use Rattle.steps.specs.Entry.{only}
 use Rattle.steps.proofs.MadeConfiguration.{join}
 
@@ -105,9 +105,9 @@ module _ (c : Cell) (r : Recipe) (p : ℕ) (ls ms : ℕ → ℕ) (same : (j : �
           differ : (j : ℕ) → j < linesOf r p → allBelow (λ i. not (eqb (ls i) (ls j))) j ≡ allBelow (λ i. not (eqb (ms i) (ms j))) j
           differ j low = all-same (λ i. not (eqb (ls i) (ls j))) (λ i. not (eqb (ms i) (ms j))) j (λ i less. rw (same i (omega arith), same j low))
 
-      pub carries-agrees : carries c r p x ls a ≡ carries c r p y ms a
-      unfolding carries
-      carries-agrees = rw (step-agrees c x y alike a, matches-agrees, present-agrees)
+      pub suits-agrees : suits c r p x ls a ≡ suits c r p y ms a
+      unfolding suits
+      suits-agrees = rw (step-agrees c x y alike a, matches-agrees, present-agrees)
 
 pub after-carry-agrees :
     (c : Cell) (r : Recipe) (p : ℕ) (ls ms : ℕ → ℕ) (x y : Choice) (outcome : ℕ) (a : Configuration)

@@ -16,6 +16,7 @@ pub mod PortCounts
 pub mod SilentLines
 pub mod CarryLines
 pub mod OpenSteps
+pub mod StationLoads
 pub mod SingleMakesJoint
 pub mod Effects
 pub mod SingleEffects

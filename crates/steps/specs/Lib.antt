@@ -1,4 +1,5 @@
 pub mod Lines
+pub mod Limits
 pub mod Joint
 pub mod Carry
 pub mod Entry

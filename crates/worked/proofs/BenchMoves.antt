@@ -7,8 +7,9 @@ use Rattle.positions.specs.Radix.{sumBelow, productBelow}
 use Rattle.positions.specs.Sizes.{stateCount, stateCounts, partsIn, partCount, jointCount, sizesFor, farthest}
 use Rattle.positions.specs.Position.{stateNumber, placeNumber, positionOf, stateWeight, pointAt, stateAt, placeAt, configurationAt}
 use Rattle.steps.specs.Lines.{firstLineOf, linesOf, kindOf, thenOf, elseOf, isTaken, isGiven}
+use Rattle.steps.specs.Limits.{load, keepsLimits, noneOverfull}
 use Rattle.steps.specs.Joint.{mayDo, acts, actsOn, howMany, portFits, isStep, isSilentStep, stateAfter, receiver, handed, placeAfter, after, isSilent}
-use Rattle.steps.specs.Carry.{serves, matches, standsAt, present, free, carries, putThere, placed, partsMoved, afterCarry, isFree}
+use Rattle.steps.specs.Carry.{serves, matches, standsAt, present, free, suits, carries, putThere, placed, partsMoved, afterCarry, isFree}
 use Rattle.steps.specs.Entry.{entryKind, letter, unused, lettersUsed, isLine, isFormed, only, stepOf, mayBeTaken}
 use Rattle.steps.specs.Effect.{taken, effect, isMove, opens, leaves, makes, leadsTo}
 use Rattle.worked.specs.Moves.{filled, benchCell, benchRecipe, benchSizes, next}
@@ -32,9 +33,9 @@ pub moves : Moves
 unfolding isOf firstBelow anyBelow allBelow countBelow greatestBelow tabulate greatestResource holdsPart pointCount sumBelow productBelow
     stateCount stateCounts partsIn partCount jointCount sizesFor stateNumber placeNumber positionOf stateWeight pointAt stateAt placeAt
     configurationAt firstLineOf linesOf kindOf thenOf elseOf isTaken isGiven filled benchCell benchRecipe next mayDo acts actsOn howMany
-    portFits isStep isSilentStep stateAfter receiver handed placeAfter after serves matches standsAt present free carries putThere placed
-    partsMoved afterCarry entryKind letter unused lettersUsed isLine isFormed only stepOf mayBeTaken taken effect isMove opens leaves makes
-    leadsTo farthest isSilent isFree
+    portFits isStep isSilentStep load keepsLimits noneOverfull suits stateAfter receiver handed placeAfter after serves matches standsAt
+    present free carries putThere placed partsMoved afterCarry entryKind letter unused lettersUsed isLine isFormed only stepOf mayBeTaken
+    taken effect isMove opens leaves makes leadsTo farthest isSilent isFree
 moves =
     record {
       joint-states = refl;

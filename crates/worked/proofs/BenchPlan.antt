@@ -31,10 +31,12 @@ use Rattle.positions.specs.Checked.{Checked}
 use Rattle.positions.proofs.CheckedSizes.{checked-fits, sizes-checked}
 use Rattle.positions.proofs.PositionNumbers.{position-lt}
 use Rattle.steps.specs.Lines.{firstLineOf, linesOf, kindOf, thenOf, elseOf, isTaken, isGiven}
+use Rattle.steps.specs.Limits.{load, keepsLimits, noneOverfull}
 use Rattle.steps.specs.Joint.{mayDo, acts, actsOn, howMany, portFits, isStep, isSilentStep, stateAfter, receiver, handed, placeAfter, after, isSilent}
-use Rattle.steps.specs.Carry.{serves, matches, standsAt, present, free, carries, putThere, placed, partsMoved, afterCarry, isFree}
+use Rattle.steps.specs.Carry.{serves, matches, standsAt, present, free, suits, carries, putThere, placed, partsMoved, afterCarry, isFree}
 use Rattle.steps.specs.Entry.{entryKind, letter, unused, lettersUsed, isLine, isFormed, only, stepOf, mayBeTaken}
 use Rattle.steps.specs.Effect.{taken, effect, isMove, opens, leaves, makes, leadsTo}
+use Rattle.steps.proofs.StationLoads.{all-kept}
 use Rattle.simulation.specs.Simulation.{Position, Set, Greatest, Realisable}
 use Rattle.simulation.specs.Plan.{Planned}
 use Rattle.simulation.proofs.Machine.{Lost}
@@ -44,9 +46,9 @@ use Rattle.simulation.proofs.StageTest.{stageOf, noMore, lower, keepsStage, sta
 use Rattle.simulation.proofs.StageListSound.{stages-lost}
 use Rattle.simulation.proofs.JointIsSingle.{SingleSimulation, within, is-within, single-joint}
 use Rattle.simulation.proofs.ClosedTableIsPlan.{planned, starts}
-use Rattle.simulation.proofs.SimulationByMoves.{lost-never}
 use Rattle.worked.specs.Moves.{filled, benchCell, benchRecipe, benchSizes, benchEntry, benchTable, benchRanks}
 use Rattle.worked.specs.Plans.{benchStages, deadRecipe, deadStages, endRecipe}
+use Rattle.worked.proofs.Certificates.{staged-unrealisable}
 
 abbrev deadSizes : Sizes
 deadSizes = sizesOf benchCell deadRecipe
@@ -64,7 +66,6 @@ pub record Computed : Type 0 where
   pub dead-sized : checkSizes benchCell deadRecipe ≡ Accepted
   dead-staged : areStages benchCell deadRecipe deadSizes deadStages ≡ true
   dead-start : stageOf deadSizes deadStages 0 start ≡ 3
-  dead-range : isPosition deadSizes 0 start ≡ true
   six : length (start .state) ≡ 6
   eight : length (start .place) ≡ 8
   -- position 1, which has no entry
@@ -82,19 +83,22 @@ pub record Computed : Type 0 where
   pub many : countBelow (λ m. not (eqb (getD benchTable m 0) 0)) 90 ≡ 25
   pub end-sized : checkSizes benchCell endRecipe ≡ Accepted
   end-ends : kindOf endRecipe 0 ≡ 0
+  -- no station of the bench example has a limit
+  unlimited : anyBelow (λ k. ltb (getD (benchCell .limits) k 0) 8) 6 ≡ false
 
 pub computed : Computed
 unfolding isOf firstBelow anyBelow allBelow countBelow greatestBelow tabulate firstRefusal firstLine noLine rule3 cell.leavesRange
-    cell.rule4 cell.greatestResource cell.rule5 cell.otherAct cell.partner cell.unpaired cell.rule6 cell.cellRules cell.checkCell
-    recipe.leavesRange recipe.rule4 recipe.breaksOrder recipe.rule7 recipe.clashes recipe.breaksRepeat recipe.rule8 recipe.breaksUnused
-    recipe.rule9 recipe.lacksParts recipe.rule10 recipe.holdsPart recipe.common recipe.sharesPart recipe.rule11 recipe.pointCount
-    recipe.leadsOut recipe.rule12 recipe.recipeRules recipe.checkRecipe sumBelow productBelow stateCount stateCounts partsIn partCount
-    jointCount sizesFor start stateNumber placeNumber positionOf stateWeight pointAt stateAt placeAt configurationAt recordRules rule13
-    checkSizes placeCount isPosition firstLineOf linesOf kindOf thenOf elseOf isTaken isGiven entryOf rankOf hasEntry leadsOn closedAt
-    isClosed stageOf noMore lower keepsStage staysStaged movesStaged positionStaged areStages filled benchCell benchRecipe benchEntry
-    benchTable benchRanks benchStages deadRecipe deadStages endRecipe mayDo acts actsOn howMany portFits isStep isSilentStep stateAfter
-    receiver handed placeAfter after serves matches standsAt present free carries putThere placed partsMoved afterCarry entryKind letter
-    unused lettersUsed isLine isFormed only stepOf mayBeTaken taken effect isMove opens leaves makes leadsTo cell.inRange cell.gap
+    cell.rule4 cell.greatestResource cell.rule5 cell.otherAct cell.partner cell.unpaired cell.limitInRange cell.limitLeavesRange
+    cell.rule4Limits cell.rule6 cell.limitsAbsent cell.rule20 cell.cellRules cell.checkCell recipe.leavesRange recipe.rule4
+    recipe.breaksOrder recipe.rule7 recipe.clashes recipe.breaksRepeat recipe.rule8 recipe.breaksUnused recipe.rule9 recipe.lacksParts
+    recipe.rule10 recipe.holdsPart recipe.common recipe.sharesPart recipe.rule11 recipe.pointCount recipe.leadsOut recipe.rule12
+    recipe.recipeRules recipe.checkRecipe sumBelow productBelow stateCount stateCounts partsIn partCount jointCount sizesFor start
+    stateNumber placeNumber positionOf stateWeight pointAt stateAt placeAt configurationAt recordRules rule13 checkSizes placeCount
+    isPosition firstLineOf linesOf kindOf thenOf elseOf isTaken isGiven entryOf rankOf hasEntry leadsOn closedAt isClosed stageOf noMore
+    lower keepsStage staysStaged movesStaged positionStaged areStages filled benchCell benchRecipe benchEntry benchTable benchRanks
+    benchStages deadRecipe deadStages endRecipe mayDo acts actsOn howMany portFits isStep isSilentStep load keepsLimits noneOverfull suits
+    stateAfter receiver handed placeAfter after serves matches standsAt present free carries putThere placed partsMoved afterCarry entryKind
+    letter unused lettersUsed isLine isFormed only stepOf mayBeTaken taken effect isMove opens leaves makes leadsTo cell.inRange cell.gap
     cell.hasNoLine recipe.inRange recipe.hasUnused farthest stateFits placeFits isSilent isFree lineVerdict
 computed =
     record {
@@ -108,7 +112,6 @@ computed =
       dead-sized = refl;
       dead-staged = refl;
       dead-start = refl;
-      dead-range = refl;
       six = refl;
       eight = refl;
       first-number = refl;
@@ -123,6 +126,7 @@ computed =
       many = refl;
       end-sized = refl;
       end-ends = refl;
+      unlimited = refl;
     }
 
 pub bench-checked : Checked benchCell benchRecipe benchSizes
@@ -160,10 +164,7 @@ bench-planned =
 -- ‡ "point 3 as `3,2,2,1,0,2,2` gives 15, the station having left state 1": no simulation holds the start
 pub dead-recipe : Realisable benchCell deadRecipe → ⊥
 dead-recipe =
-    let checked = sizes-checked benchCell deadRecipe (computed .dead-sized) in
-    let begins : Position deadSizes 0 start = record { in-range = computed .dead-range; six = computed .six; eight = computed .eight } in
-    lost-never benchCell deadRecipe deadSizes checked 0 start begins
-    (stages-lost benchCell deadRecipe deadSizes deadStages checked (computed .dead-staged) 0 start begins (omega (arith, computed .dead-start)))
+    staged-unrealisable benchCell deadRecipe (computed .dead-sized) deadStages (computed .dead-staged) (omega (arith, computed .dead-start))
 
 -- the move that a plan has at a position is open there
 never-refused : (w : Bool) (e : ℕ) → neverShut (cond w (moved 0 e) (moved (numberOf NotOpen) 0)) ≡ true → w ≡ true
@@ -218,6 +219,7 @@ module _ (before table : List ℕ) (refused : Bool) (plan : Planned benchCell be
 
 -- ‡ "a recipe of one end is accepted": it passes the rules before 15, and is realisable
 pub one-end : Realisable benchCell endRecipe
+unfolding noneOverfull
 one-end =
     let sizes = sizesOf benchCell endRecipe in
     let checked = sizes-checked benchCell endRecipe (computed .end-sized) in
@@ -231,4 +233,8 @@ one-end =
     ends p a = eqb p 0
 
     none-left : SingleSimulation benchCell endRecipe (sizesOf benchCell endRecipe) ends
-    none-left p a valid member some = absurd (some (ap (kindOf endRecipe) (eqb-true p 0 member) ∙ computed .end-ends))
+    none-left =
+        record {
+          none-overfull = λ p a valid member. all-kept (benchCell .limits) (a .place) (computed .unlimited);
+          goes-on = λ p a valid member some. absurd (some (ap (kindOf endRecipe) (eqb-true p 0 member) ∙ computed .end-ends));
+        }

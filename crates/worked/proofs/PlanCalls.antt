@@ -7,33 +7,29 @@ use Prim.Native.Nat.{ℕ, _<_, _≤_}
 use native.Mathlib.Omega.{arith}
 use lib.ListN.{length, getD}
 use lib.Dec.{eqb}
-use borrow.Author.Tests.{lt-ltb, le-ltb, eqb-true, eqb-false, not-true}
+use borrow.Author.Tests.{eqb-true, eqb-false, not-true}
 use Rattle.refusals.specs.declared.Refusal.the-variants.{TooShort, NotRealisable}
 use Rattle.refusals.specs.declared.Verdict.{Verdict}
 use Rattle.refusals.specs.declared.Verdict.the-variants.{Accepted, Refused}
 use Rattle.refusals.specs.Search.{firstBelow, anyBelow, allBelow, countBelow, greatestBelow, tabulate, isOf}
-use Rattle.refusals.proofs.Verdicts.{and-left, and-right, refused-not, noLine-broken, noLine-kept}
-use Rattle.refusals.proofs.Rules.{refuses, accepts, decides, part-accepts}
-use Rattle.cell.specs.declared.Cell.{Cell}
+use Rattle.refusals.proofs.Verdicts.{and-left, and-right, refused-not}
 use Rattle.cell.specs.Rules as cell
-use Rattle.recipe.specs.declared.Recipe.{Recipe}
 use Rattle.recipe.specs.Rules as recipe
 use Rattle.positions.specs.Radix.{sumBelow, productBelow}
 use Rattle.positions.specs.Sizes.{stateCount, stateCounts, partsIn, partCount, jointCount, sizesFor, sizesOf, farthest}
 use Rattle.positions.specs.Position.{stateNumber, placeNumber, positionOf, stateWeight, pointAt, stateAt, placeAt, configurationAt}
-use Rattle.positions.specs.Rules.{recordRules, checkRecords, checkSizes, rule14}
-use Rattle.positions.proofs.AcceptedRecords.{records-ok, few-ok}
 use Rattle.steps.specs.Lines.{firstLineOf, linesOf, kindOf, thenOf, elseOf, isTaken, isGiven}
+use Rattle.steps.specs.Limits.{load, keepsLimits, noneOverfull}
 use Rattle.steps.specs.Joint.{mayDo, acts, actsOn, howMany, portFits, isStep, isSilentStep, stateAfter, receiver, handed, placeAfter, after, isSilent}
-use Rattle.steps.specs.Carry.{serves, matches, standsAt, present, free, carries, putThere, placed, partsMoved, afterCarry, isFree}
+use Rattle.steps.specs.Carry.{serves, matches, standsAt, present, free, suits, carries, putThere, placed, partsMoved, afterCarry, isFree}
 use Rattle.steps.specs.Entry.{entryKind, letter, unused, lettersUsed, isLine, isFormed, only, stepOf, mayBeTaken}
 use Rattle.steps.specs.Effect.{taken, effect, isMove, opens, leaves, makes, leadsTo}
 use Rattle.simulation.specs.Plan.{Planned}
-use Rattle.planner.specs.Call.{lentRules, rule14Scratch, checkPlan, PlanCall}
-use Rattle.planner.proofs.Demands.{realisable-accepted, unrealisable-refused}
+use Rattle.planner.specs.Call.{checkPlan, PlanCall}
 use Rattle.worked.specs.Moves.{filled, benchCell, benchRecipe, benchSizes, benchEntry, benchTable}
 use Rattle.worked.specs.Plans.{deadRecipe, endRecipe}
 use Rattle.worked.proofs.BenchPlan.{computed, bench-checked, bench-planned, entry-one, entry-last, dead-recipe, one-end}
+use Rattle.worked.proofs.LentLengths.{check-passes, short-refused, call-accepts, call-refuses}
 use Rattle.worked.proofs.OneMoveOpen.{isSole, soleAt, here, entry-at, forced}
 
 -- a do or test of one line at which the bench example's table has the entry x, and no other move is open
@@ -56,9 +52,10 @@ soles : Sole
 unfolding isOf firstBelow anyBelow allBelow countBelow greatestBelow tabulate cell.greatestResource recipe.holdsPart recipe.pointCount
     sumBelow productBelow stateCount stateCounts partsIn partCount jointCount sizesFor stateNumber placeNumber positionOf stateWeight
     pointAt stateAt placeAt configurationAt firstLineOf linesOf kindOf thenOf elseOf isTaken isGiven isSole soleAt sole filled benchCell
-    benchRecipe benchEntry benchTable deadRecipe endRecipe mayDo acts actsOn howMany portFits isStep isSilentStep stateAfter receiver handed
-    placeAfter after serves matches standsAt present free carries putThere placed partsMoved afterCarry entryKind letter unused lettersUsed
-    isLine isFormed only stepOf mayBeTaken taken effect isMove opens leaves makes leadsTo farthest isSilent isFree
+    benchRecipe benchEntry benchTable deadRecipe endRecipe mayDo acts actsOn howMany portFits isStep isSilentStep load keepsLimits
+    noneOverfull suits stateAfter receiver handed placeAfter after serves matches standsAt present free carries putThere placed partsMoved
+    afterCarry entryKind letter unused lettersUsed isLine isFormed only stepOf mayBeTaken taken effect isMove opens leaves makes leadsTo
+    farthest isSilent isFree
 soles =
     record {
       glued = refl;
@@ -69,23 +66,6 @@ soles =
       dead-positions = refl;
       end-positions = refl;
     }
-
--- the rules before 15, for lent lengths
-module _ (c : Cell) (r : Recipe) (sized : checkSizes c r ≡ Accepted) (table scratch : ℕ) (long : sizesOf c r .positions ≤ table) where
-  checked : {v : Verdict} → v ≡ rule14Scratch (sizesOf c r) scratch → checkPlan c r table scratch ≡ v
-  unfolding checkRecords checkPlan lentRules rule14
-  checked e =
-      sym
-      (part-accepts (recordRules c r) (lentRules (sizesOf c r) table scratch) refl (records-ok c r sized)
-      (accepts _ refl (few-ok c r sized) (accepts _ refl (noLine-kept TooShort _ (le-ltb _ _ long)) (decides e))))
-
-  check-passes : sizesOf c r .positions ≤ scratch → checkPlan c r table scratch ≡ Accepted
-  unfolding rule14Scratch
-  check-passes wide = checked (sym (noLine-kept TooShort _ (le-ltb _ _ wide)))
-
-  check-short : scratch < sizesOf c r .positions → checkPlan c r table scratch ≡ Refused TooShort 0
-  unfolding rule14Scratch
-  check-short narrow = checked (sym (noLine-broken TooShort _ (lt-ltb _ _ narrow)))
 
 -- what every call on the bench example leaves
 pub record Bench (table : List ℕ) (verdict : Verdict) : Type 0 where
@@ -109,8 +89,7 @@ module _ (table scratch table′ scratch′ : List ℕ) (verdict : Verdict) wher
     -- ‡ "scratch 89 gives 14", and any shorter one
     pub short-scratch : length scratch ≤ 89 → verdict ≡ Refused TooShort 0
     short-scratch narrow =
-        let is = check-short benchCell benchRecipe (computed .sized) (length table) (length scratch) fits (omega (arith, computed .positions)) in
-        call .answer ∙ sym (refuses _ refl is) ∙ is
+        short-refused benchCell benchRecipe (computed .sized) table scratch table′ scratch′ verdict call fits (omega (arith, computed .positions))
 
     -- ‡ "90 passes"
     module _ (wide : 90 ≤ length scratch) where
@@ -139,7 +118,9 @@ module _ (table scratch table′ scratch′ : List ℕ) (verdict : Verdict) wher
       pub bench-called : Bench table′ verdict
       bench-called =
           record {
-            accepted = realisable-accepted benchCell benchRecipe table scratch table′ scratch′ verdict call passes (bench-planned .accepted-holds refl);
+            accepted =
+                call-accepts benchCell benchRecipe (computed .sized) table scratch table′ scratch′ verdict call fits
+                (omega (arith, computed .positions)) (bench-planned .accepted-holds refl);
             entry-0 = move 0 50331648 (omega arith) (omega arith) (soles .glued);
             entry-22 = move 22 33554561 (omega arith) (omega arith) (soles .passed-on);
             entry-26 = move 26 50331651 (omega arith) (omega arith) (soles .tested);
@@ -164,10 +145,8 @@ module _ (table scratch table′ scratch′ : List ℕ) (verdict : Verdict) wher
       → 90 ≤ length scratch
       → verdict ≡ Refused NotRealisable 0
   dead-called call long wide =
-      unrealisable-refused benchCell deadRecipe table scratch table′ scratch′ verdict call
-      (check-passes benchCell deadRecipe (computed .dead-sized) (length table) (length scratch)
-      (omega (arith, soles .dead-positions)) (omega (arith, soles .dead-positions)))
-      dead-recipe
+      call-refuses benchCell deadRecipe (computed .dead-sized) table scratch table′ scratch′ verdict call
+      (omega (arith, soles .dead-positions)) (omega (arith, soles .dead-positions)) dead-recipe
 
   -- ‡ "a recipe of one end is accepted"
   pub end-called :
@@ -176,7 +155,5 @@ module _ (table scratch table′ scratch′ : List ℕ) (verdict : Verdict) wher
       → 6 ≤ length scratch
       → verdict ≡ Accepted
   end-called call long wide =
-      realisable-accepted benchCell endRecipe table scratch table′ scratch′ verdict call
-      (check-passes benchCell endRecipe (computed .end-sized) (length table) (length scratch)
-      (omega (arith, soles .end-positions)) (omega (arith, soles .end-positions)))
-      one-end
+      call-accepts benchCell endRecipe (computed .end-sized) table scratch table′ scratch′ verdict call
+      (omega (arith, soles .end-positions)) (omega (arith, soles .end-positions)) one-end

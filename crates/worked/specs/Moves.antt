@@ -6,6 +6,7 @@ use lib.ListN.{length, replicate}
 use lib.Dec.{eqb, leb}
 use Rattle.refusals.specs.Search.{tabulate}
 use Rattle.cell.specs.declared.Cell.{Cell}
+use Rattle.cell.specs.Reader.{noLimits}
 use Rattle.recipe.specs.declared.Recipe.{Recipe}
 use Rattle.positions.specs.declared.Sizes.{Sizes}
 use Rattle.positions.specs.Sizes.{sizesOf}
@@ -26,6 +27,7 @@ benchCell =
       act = filled (1 ∷ 3 ∷ 2 ∷ 1 ∷ 1 ∷ []);
       arg = filled (1 ∷ 5 ∷ 5 ∷ 2 ∷ 3 ∷ []);
       to = filled (1 ∷ 0 ∷ 1 ∷ 2 ∷ 0 ∷ []);
+      limits = noLimits;
     }
 
 unfoldable pub benchRecipe : Recipe
@@ -79,6 +81,7 @@ limitCell most =
       act = filled [];
       arg = filled [];
       to = filled (most ∷ 3 ∷ 3 ∷ []);
+      limits = noLimits;
     }
 
 -- "P 5, N 16": fifteen dos in a row that give part 4, and an end

@@ -4,6 +4,7 @@ use mathlib.Core.List.{List, [], _∷_}
 use Prim.Native.Nat.{ℕ}
 use lib.ListN.{replicate}
 use Rattle.cell.specs.declared.Cell.{Cell}
+use Rattle.cell.specs.Reader.{noLimits}
 use Rattle.recipe.specs.declared.Recipe.{Recipe}
 use Rattle.positions.specs.declared.Configuration.{Configuration}
 use Rattle.worked.specs.Moves.{filled}
@@ -18,6 +19,7 @@ laneCell =
       act = filled (1 ∷ 3 ∷ 2 ∷ 3 ∷ 2 ∷ 1 ∷ []);
       arg = filled (1 ∷ 1 ∷ 1 ∷ 2 ∷ 2 ∷ 2 ∷ []);
       to = filled [];
+      limits = noLimits;
     }
 
 -- `0,1,1,0,1,1,0` `1,1,2,1,0,2,0` `2,0,0,0,0,0,0`

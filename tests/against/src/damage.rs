@@ -1,19 +1,20 @@
 //! Records with every kind of damage: numbers that break a rule, any bytes, and other lengths.
 
 use crate::generate::{record, Generate, Rows};
-use crate::pairs::Pair;
+use crate::pairs::{limits_of, Pair};
 use crate::random::Random;
 use crate::{CellFile, Format, RecipeFile};
+use independent::{MOST_LINES, MOST_RESOURCES};
 
 /// The records of a pair: mostly as they are, else with some damage.
 pub fn seeded_records(pair: &Pair, random: &mut Random) -> (Vec<u8>, Vec<u8>) {
     let mut records = (pair.cell_bytes(), pair.recipe_bytes());
-    match random.below(16) {
-        0 | 1 => records.0 = broken::<CellFile>(&pair.cell, &[4, 5, 6], random),
+    match random.below(20) {
+        0 | 1 => records.0 = broken_cell(pair, random),
         2 | 3 => records.1 = broken::<RecipeFile>(&pair.recipe, &[4, 7, 8, 9, 10, 11, 12], random),
         4 => {
             // Both at once, of which the cell's comes first.
-            records.0 = broken::<CellFile>(&pair.cell, &[4, 5, 6], random);
+            records.0 = broken_cell(pair, random);
             records.1 = broken::<RecipeFile>(&pair.recipe, &[4, 7, 8, 9], random);
         }
         5 => damage_bytes::<CellFile>(&mut records.0, random),
@@ -24,21 +25,84 @@ pub fn seeded_records(pair: &Pair, random: &mut Random) -> (Vec<u8>, Vec<u8>) {
         }
         8 => resize(&mut records.0, random),
         9 => resize(&mut records.1, random),
+        10 => break_limits(&mut records.0, random),
+        11 => {
+            // A cell with broken lines too, or beside a recipe that comes after it.
+            if random.coin() {
+                records.0 = broken_cell(pair, random);
+            } else {
+                records.1 = broken::<RecipeFile>(&pair.recipe, &[4, 7, 8, 9], random);
+            }
+            break_limits(&mut records.0, random);
+        }
+        12 => change_limits(&mut records.0, random),
         _ => {}
     }
     records
 }
 
+/// A cell record as `seeded_records` has it, but more often with some damage.
+pub fn seeded_cell(pair: &Pair, random: &mut Random) -> Vec<u8> {
+    let mut record = pair.cell_bytes();
+    match random.below(12) {
+        0 | 1 => record = broken_cell(pair, random),
+        2 => damage_bytes::<CellFile>(&mut record, random),
+        3 => resize(&mut record, random),
+        4 => break_limits(&mut record, random),
+        5 => {
+            record = broken_cell(pair, random);
+            break_limits(&mut record, random);
+        }
+        6 => change_limits(&mut record, random),
+        _ => {}
+    }
+    record
+}
+
+/// A cell record whose lines mostly break a rule.
+fn broken_cell(pair: &Pair, random: &mut Random) -> Vec<u8> {
+    let mut record = broken::<CellFile>(&pair.cell, &[4, 5, 6], random);
+    limits_of(&mut record).copy_from_slice(&pair.limits);
+    record
+}
+
 /// A record whose numbers mostly break one of these rules.
-fn broken<F: Generate>(rows: &Rows, rules: &[u8], random: &mut Random) -> Vec<u8> {
+fn broken<F: Generate + Format>(rows: &Rows, rules: &[u8], random: &mut Random) -> Vec<u8> {
     let mut rows = rows.clone();
     F::break_rule(random.choose(rules), &mut rows, random);
     record::<F>(&rows)
 }
 
+/// Puts a number out of range, or one that only a resource may have that is there, in the place of some
+/// limit.
+fn break_limits(record: &mut [u8], random: &mut Random) {
+    let any = random.byte();
+    for _ in 0..1 + random.below(2) {
+        let k = random.below(MOST_RESOURCES);
+        let limits = limits_of(record);
+        match random.coin() {
+            true => limits[k] = random.choose(&[0, 9, 10, 255, any]),
+            // The greatest resources are there in the fewest cells.
+            false => limits[k.max(random.below(MOST_RESOURCES))] = 1 + random.below(7) as u8,
+        }
+    }
+}
+
+/// Gives each resource any limit of the range, those that aren't there mostly none.
+fn change_limits(record: &mut [u8], random: &mut Random) {
+    let lines = record[1..].chunks(5).take(record[0].into());
+    let resources = 1 + lines.map(|line| line[0]).max().unwrap_or(0);
+    let there = match random.below(4) {
+        0 => MOST_RESOURCES,
+        _ => usize::from(resources).min(MOST_RESOURCES),
+    };
+    limits_of(record)[..there].fill_with(|| 1 + random.below(8) as u8);
+}
+
 /// Changes the count or some other byte, or all of them, or what stands past the count.
 fn damage_bytes<F: Format>(record: &mut [u8], random: &mut Random) {
     let lines = 1 + usize::from(record[0]) * F::GREATEST.len();
+    let all_lines = 1 + MOST_LINES * F::GREATEST.len();
     match random.below(8) {
         0 => record[0] = random.choose(&[0, 1, 63, 64, 65, 128, 255]),
         1 => record[0] = record[0].wrapping_add(random.choose(&[1, 255])),
@@ -46,7 +110,7 @@ fn damage_bytes<F: Format>(record: &mut [u8], random: &mut Random) {
         3 => record[random.below(F::RECORD_BYTES)] = random.byte(),
         4 => record.fill_with(|| random.byte()),
         // Past the line count everything counts for nothing.
-        5 => record[lines..].fill_with(|| random.byte()),
+        5 => record[lines..all_lines].fill_with(|| random.byte()),
         _ => {
             let telling = [0, 1, 2, 3, 4, 5, 6, 7, 8, 15, 16, 63, 64, 255];
             record[random.below(lines)] = random.choose(&telling);

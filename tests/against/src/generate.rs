@@ -1,7 +1,9 @@
 //! Files for the comparison: good ones, and every kind of damage to them.
 
 use crate::random::Random;
-use crate::{CellFile, Format, RecipeFile};
+use crate::{CellFile, Columns, Format, LimitsFile, RecipeFile};
+use independent::{MOST_LINES, MOST_RESOURCES};
+use std::ops::RangeInclusive;
 
 /// The value lines of a file as numbers.
 pub type Rows = Vec<Vec<u32>>;
@@ -35,9 +37,15 @@ mod recipe {
     pub const ELSE: usize = 6;
 }
 
+/// Columns of a limits row.
+mod limits {
+    pub const RESOURCE: usize = 0;
+    pub const MOST: usize = 1;
+}
+
 /// A format whose files can be made up.
-pub trait Generate: Format {
-    /// The rows of a file that the reader must accept.
+pub trait Generate: Columns {
+    /// The rows of a file that the reader must accept; for limits, over a cell of six resources.
     fn good_rows(random: &mut Random) -> Rows;
 
     /// Changes numbers so that they mostly break `rule`, one of the format's rules from 4 on.
@@ -45,7 +53,7 @@ pub trait Generate: Format {
 }
 
 /// The file with these value lines.
-pub fn file<F: Format>(rows: &[Vec<u32>]) -> Vec<u8> {
+pub fn file<F: Columns>(rows: &[Vec<u32>]) -> Vec<u8> {
     let mut file = F::NAMES.to_vec();
     for row in rows {
         for (k, number) in row.iter().enumerate() {
@@ -59,14 +67,16 @@ pub fn file<F: Format>(rows: &[Vec<u32>]) -> Vec<u8> {
     file
 }
 
-/// The record with these value lines, as bytes. A number that no byte holds becomes 255.
+/// The record with these value lines, as bytes. A number that no byte holds becomes 255. What stands
+/// behind the lines is as a reader leaves it.
 pub fn record<F: Format>(rows: &[Vec<u32>]) -> Vec<u8> {
-    let mut record = vec![0; F::RECORD_BYTES];
+    let mut record = vec![0; 1 + MOST_LINES * F::GREATEST.len()];
     record[0] = rows.len().min(255) as u8;
     let numbers = rows.iter().flatten();
     for (byte, &number) in record[1..].iter_mut().zip(numbers) {
         *byte = number.min(255) as u8;
     }
+    record.extend_from_slice(F::BEHIND_LINES);
     record
 }
 
@@ -93,19 +103,34 @@ fn push_number(text: &mut Vec<u8>, number: u32) {
 }
 
 /// Rows of numbers in their ranges, which may break any later rule.
-pub fn rows_in_range<F: Format>(lines: usize, random: &mut Random) -> Rows {
+pub fn rows_in_range<F: Columns>(lines: usize, random: &mut Random) -> Rows {
     let row = |random: &mut Random| {
-        F::GREATEST
-            .iter()
-            .map(|&most| random.number(most + 1))
+        let columns = 0..F::GREATEST.len();
+        columns
+            .map(|k| number_in(range_of::<F>(k), random))
             .collect()
     };
     (0..lines).map(|_| row(random)).collect()
 }
 
-/// A number at, near or past the top of a column's range, or one that a narrow type would lose bits
+/// The range of a column.
+pub fn range_of<F: Columns>(column: usize) -> RangeInclusive<u32> {
+    F::LEAST[column]..=F::GREATEST[column]
+}
+
+/// A number of its range.
+fn number_in(range: RangeInclusive<u32>, random: &mut Random) -> u32 {
+    let (least, greatest) = range.into_inner();
+    least + random.number(greatest - least + 1)
+}
+
+/// A number at, near or past a bound of a column's range, or one that a narrow type would lose bits
 /// of.
-fn number_near(greatest: u32, random: &mut Random) -> u32 {
+fn number_near(range: RangeInclusive<u32>, random: &mut Random) -> u32 {
+    let (least, greatest) = range.into_inner();
+    if least > 0 && random.coin() {
+        return least - random.number(2);
+    }
     match random.below(8) {
         0 => greatest,
         1 | 2 => greatest + 1,
@@ -120,7 +145,11 @@ fn number_near(greatest: u32, random: &mut Random) -> u32 {
 }
 
 /// A number out of range, of good form.
-fn number_past(greatest: u32, random: &mut Random) -> u32 {
+fn number_past(range: RangeInclusive<u32>, random: &mut Random) -> u32 {
+    let (least, greatest) = range.into_inner();
+    if least > 0 && random.coin() {
+        return random.number(least);
+    }
     match random.below(4) {
         0 => greatest + 1,
         1 => 256 + random.number(greatest + 1),
@@ -130,7 +159,7 @@ fn number_past(greatest: u32, random: &mut Random) -> u32 {
 }
 
 /// Puts a number at or past a bound into some field.
-pub fn try_bounds<F: Format>(rows: &mut Rows, random: &mut Random) {
+pub fn try_bounds<F: Columns>(rows: &mut Rows, random: &mut Random) {
     change_number::<F>(rows, random, number_near);
 }
 
@@ -153,21 +182,21 @@ pub fn move_rows(rows: &mut Rows, random: &mut Random) {
 }
 
 /// Gives some field another number of its range.
-pub fn change_in_range<F: Format>(rows: &mut Rows, random: &mut Random) {
-    change_number::<F>(rows, random, |greatest, random| random.number(greatest + 1));
+pub fn change_in_range<F: Columns>(rows: &mut Rows, random: &mut Random) {
+    change_number::<F>(rows, random, number_in);
 }
 
-fn change_number<F: Format>(
+fn change_number<F: Columns>(
     rows: &mut Rows,
     random: &mut Random,
-    number: impl Fn(u32, &mut Random) -> u32,
+    number: impl Fn(RangeInclusive<u32>, &mut Random) -> u32,
 ) {
     if rows.is_empty() {
         return;
     }
     let n = random.below(rows.len());
     let k = random.below(F::GREATEST.len());
-    rows[n][k] = number(F::GREATEST[k], random);
+    rows[n][k] = number(range_of::<F>(k), random);
 }
 
 /// Some row that `fits`, if there is one.
@@ -373,6 +402,47 @@ impl Generate for RecipeFile {
     }
 }
 
+impl Generate for LimitsFile {
+    fn good_rows(random: &mut Random) -> Rows {
+        limits_rows(MOST_RESOURCES, random)
+    }
+
+    fn break_rule(rule: u8, rows: &mut Rows, random: &mut Random) {
+        if rows.is_empty() {
+            return;
+        }
+        match rule {
+            4 => change_number::<LimitsFile>(rows, random, number_past),
+            20 => {
+                let n = random.below(rows.len());
+                let m = random.below(rows.len());
+                match random.below(4) {
+                    // Where the cell has fewer resources, the later ones are too great.
+                    0 => rows[n][limits::RESOURCE] = 5,
+                    1 => rows[n][limits::RESOURCE] = random.number(6),
+                    2 => rows.insert(m, rows[n].clone()),
+                    _ => rows.swap(n, m),
+                }
+            }
+            _ => panic!("no change of numbers breaks rule {rule} of limits"),
+        }
+    }
+}
+
+/// Limits for some of so many resources, for one at least.
+pub fn limits_rows(resources: usize, random: &mut Random) -> Rows {
+    let row = |resource: u32, random: &mut Random| {
+        let range = range_of::<LimitsFile>(limits::MOST);
+        vec![resource, number_in(range, random)]
+    };
+    let mut rows: Rows = (0..resources as u32)
+        .map(|resource| row(resource, random))
+        .collect();
+    let left_out = random.below(resources);
+    (0..left_out).for_each(|_| _ = rows.remove(random.below(rows.len())));
+    rows
+}
+
 /// Some row whose point another row has too.
 fn shared_point(rows: &Rows, random: &mut Random) -> Option<usize> {
     let mut lines = [0; 16];
@@ -427,6 +497,53 @@ fn push_do(rows: &mut Rows, point: u32, lines: usize, then: u32, random: &mut Ra
     }
 }
 
+/// One file of a run: good, changed in its numbers, in its bytes or in both, or without a plan.
+pub fn seeded_file<F: Generate>(
+    good_rows: impl Fn(&mut Random) -> Rows,
+    random: &mut Random,
+) -> Vec<u8> {
+    let (mut rows, number_changes, byte_changes) = match random.below(20) {
+        0 => return noise::<F>(random),
+        1 => {
+            let rows = good_rows(random);
+            (rows_of_any_count::<F>(rows, random), 0, random.below(3))
+        }
+        2..=9 => (good_rows(random), 1 + random.below(3), 0),
+        10 | 11 => (good_rows(random), 1, 1 + random.below(3)),
+        12..=15 => (good_rows(random), 0, 1 + random.below(3)),
+        _ => (good_rows(random), 0, 0),
+    };
+    for _ in 0..number_changes {
+        change_numbers::<F>(&mut rows, random);
+    }
+    let mut file = file::<F>(&rows);
+    for _ in 0..byte_changes {
+        damage(&mut file, random);
+    }
+    file
+}
+
+/// Any count of rows: these over and over, or others in their ranges.
+fn rows_of_any_count<F: Columns>(rows: Rows, random: &mut Random) -> Rows {
+    let lines = random.choose(&[0, 1, 2, 63, 64, 65, 66, 1000]);
+    if random.coin() {
+        rows_in_range::<F>(lines, random)
+    } else {
+        rows.iter().cycle().take(lines).cloned().collect()
+    }
+}
+
+fn change_numbers<F: Generate>(rows: &mut Rows, random: &mut Random) {
+    // Rules 1 to 3 are not about numbers.
+    let rules = &F::REFUSALS[3..];
+    match random.below(8) {
+        0 => try_bounds::<F>(rows, random),
+        1 => move_rows(rows, random),
+        2 => change_in_range::<F>(rows, random),
+        _ => F::break_rule(random.choose(rules), rows, random),
+    }
+}
+
 /// Changes the bytes of a file.
 pub fn damage(file: &mut Vec<u8>, random: &mut Random) {
     match random.below(16) {
@@ -458,6 +575,7 @@ fn replace_names(file: &mut Vec<u8>, random: &mut Random) {
     let names = random.choose(&[
         CellFile::NAMES,
         RecipeFile::NAMES,
+        LimitsFile::NAMES,
         b"",
         b"\n",
         b"resource,from\n",
@@ -559,7 +677,7 @@ fn damage_byte(file: &mut Vec<u8>, random: &mut Random) {
 }
 
 /// Bytes without a plan: any at all, or those that files are made of, with the names line or without.
-pub fn noise<F: Format>(random: &mut Random) -> Vec<u8> {
+pub fn noise<F: Columns>(random: &mut Random) -> Vec<u8> {
     let mut file = if random.coin() {
         F::NAMES.to_vec()
     } else {

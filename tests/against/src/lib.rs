@@ -1,6 +1,6 @@
-//! The library's C interface as safe functions: the two file formats with the library's reader and
-//! the independent one under the same signature, so that one test serves both formats; and so too the
-//! calls on records and runs.
+//! The library's C interface as safe functions: the file formats with the library's reader and the
+//! independent one under the same signature, so that one test serves both; and so too the calls on
+//! records and runs.
 
 pub mod calls;
 pub mod damage;
@@ -15,8 +15,9 @@ pub mod rounds;
 pub use independent;
 
 use independent::{
-    cell_bytes, read_cell, read_recipe, recipe_bytes, Refusal, CELL_BYTES, CELL_NAMES,
-    RECIPE_BYTES, RECIPE_NAMES, RUN_BYTES,
+    cell_bytes, cell_of_bytes, read_cell, read_limits, read_recipe, recipe_bytes, Refusal,
+    CELL_BYTES, CELL_NAMES, LIMITS_NAMES, MOST_RESOURCES, NO_LIMIT, RECIPE_BYTES, RECIPE_NAMES,
+    RUN_BYTES,
 };
 
 /// The refusal of a lent buffer that is too short.
@@ -35,6 +36,12 @@ mod c {
             file_length: usize,
             record: *mut u8,
             record_length: usize,
+        ) -> u64;
+        pub fn cellplan_read_limits(
+            file: *const u8,
+            file_length: usize,
+            cell: *mut u8,
+            cell_length: usize,
         ) -> u64;
         pub fn cellplan_line_start(file: *const u8, file_length: usize, n: usize) -> usize;
         pub fn cellplan_line_length(file: *const u8, file_length: usize, n: usize) -> usize;
@@ -143,14 +150,21 @@ pub fn result(refusal: Refusal) -> u64 {
     u64::from(refusal.number) + 256 * refusal.line as u64
 }
 
-/// One of the two file formats.
-pub trait Format {
+/// The columns of a file.
+pub trait Columns {
     /// The names line with its byte 10.
     const NAMES: &'static [u8];
-    /// The top of each column's range.
+    /// The bottom and the top of each column's range.
+    const LEAST: &'static [u32];
     const GREATEST: &'static [u32];
-    /// The refusals that the reader can give.
+    /// The refusals that a file can get.
     const REFUSALS: &'static [u8];
+}
+
+/// A file format of which the reader makes a record.
+pub trait Format: Columns {
+    /// What stands behind the lines in the reader's record.
+    const BEHIND_LINES: &'static [u8];
     /// The length of a record.
     const RECORD_BYTES: usize;
 
@@ -172,10 +186,15 @@ pub trait Format {
 /// The cell file.
 pub struct CellFile;
 
-impl Format for CellFile {
+impl Columns for CellFile {
     const NAMES: &'static [u8] = CELL_NAMES;
+    const LEAST: &'static [u32] = &[0; 5];
     const GREATEST: &'static [u32] = &[5, 7, 3, 63, 7];
     const REFUSALS: &'static [u8] = &[1, 2, 3, 4, 5, 6];
+}
+
+impl Format for CellFile {
+    const BEHIND_LINES: &'static [u8] = &[NO_LIMIT; MOST_RESOURCES];
     const RECORD_BYTES: usize = CELL_BYTES;
 
     fn library(file: &[u8], record: &mut [u8]) -> u64 {
@@ -196,10 +215,15 @@ impl Format for CellFile {
 /// The recipe file.
 pub struct RecipeFile;
 
-impl Format for RecipeFile {
+impl Columns for RecipeFile {
     const NAMES: &'static [u8] = RECIPE_NAMES;
+    const LEAST: &'static [u32] = &[0; 7];
     const GREATEST: &'static [u32] = &[15, 2, 63, 255, 255, 15, 15];
     const REFUSALS: &'static [u8] = &[1, 2, 3, 4, 7, 8, 9, 10, 11, 12];
+}
+
+impl Format for RecipeFile {
+    const BEHIND_LINES: &'static [u8] = &[];
     const RECORD_BYTES: usize = RECIPE_BYTES;
 
     fn library(file: &[u8], record: &mut [u8]) -> u64 {
@@ -213,5 +237,33 @@ impl Format for RecipeFile {
         let reading = read_recipe(file);
         record.copy_from_slice(&recipe_bytes(&reading.record));
         reading.refusal
+    }
+}
+
+/// The limits file, which is read for a cell record.
+pub struct LimitsFile;
+
+impl Columns for LimitsFile {
+    const NAMES: &'static [u8] = LIMITS_NAMES;
+    const LEAST: &'static [u32] = &[0, 1];
+    const GREATEST: &'static [u32] = &[5, 8];
+    const REFUSALS: &'static [u8] = &[1, 2, 3, 4, 20];
+}
+
+impl LimitsFile {
+    /// The library's reader, called through its C interface.
+    pub fn library(file: &[u8], cell: &mut [u8]) -> u64 {
+        // SAFETY: as for the cell file.
+        unsafe { c::cellplan_read_limits(file.as_ptr(), file.len(), cell.as_mut_ptr(), cell.len()) }
+    }
+
+    /// The independent program's reader, called as the library's is.
+    pub fn independent(file: &[u8], cell: &mut [u8]) -> u64 {
+        let reading = read_limits(file, &cell_of_bytes(cell));
+        // Too few bytes are a record of no lines, which is refused.
+        if let Some(cell) = cell.get_mut(..CELL_BYTES) {
+            cell.copy_from_slice(&cell_bytes(&reading.record));
+        }
+        result(reading.refusal)
     }
 }

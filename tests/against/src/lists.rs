@@ -18,12 +18,15 @@ pub struct Seen {
     pub issued: [usize; 5],
     /// The most silent moves in a row.
     pub silent: u64,
+    /// Calls before or after which some station was overfull.
+    pub overfull: usize,
 }
 
 impl Seen {
     pub fn add(&mut self, other: &Seen) {
         self.calls += other.calls;
         self.silent = self.silent.max(other.silent);
+        self.overfull += other.overfull;
         for (all, one) in [
             (&mut self.next_moves[..], &other.next_moves[..]),
             (&mut self.reports, &other.reports),
@@ -82,6 +85,7 @@ impl List<'_> {
         for _ in 0..calls {
             seen.calls += 1;
             let expected = book.next_move();
+            let overfull = book.is_overfull();
             if random.below(3) == 0 {
                 let List {
                     cell,
@@ -92,6 +96,7 @@ impl List<'_> {
                 let word = (u64::from(expected.refusal) << 32) + u64::from(expected.entry);
                 self.assert_same(answer, word, &run, 0);
                 seen.next_moves[usize::from(expected.refusal)] += 1;
+                seen.overfull += usize::from(overfull);
                 continue;
             }
             let outcome = match random.below(8) {
@@ -102,6 +107,7 @@ impl List<'_> {
             seen.reports[refusal as usize] += 1;
             seen.issued[kind_of(expected.entry) as usize] += usize::from(refusal == 0);
             seen.silent = seen.silent.max(book.silent_moves());
+            seen.overfull += usize::from(overfull || book.is_overfull());
         }
         seen
     }

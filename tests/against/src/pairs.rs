@@ -5,33 +5,76 @@ use crate::generate::{self, Rows, DO, END, IN, INTERNAL, OPERATION, OUT, TEST};
 use crate::random::Random;
 use crate::{CellFile, RecipeFile};
 use independent::{
-    cell_bytes, entry_of, is_open, kind_of, letters_of, recipe_bytes, Cell, Configuration, Recipe,
-    Run, Sizes,
+    cell_bytes, check_cell, entry_of, is_open, kind_of, letters_of, recipe_bytes, Cell,
+    Configuration, Recipe, Run, Sizes, CELL_BYTES, MOST_RESOURCES, NO_LIMIT,
 };
 use independent::{CARRY, INTERNAL as INTERNAL_MOVE, STAY, TRANSFER};
 
-/// The value lines of a cell and of a recipe.
+/// The limits of a cell without any.
+pub const NO_LIMITS: [u8; MOST_RESOURCES] = [NO_LIMIT; MOST_RESOURCES];
+
+/// The value lines of a cell, its limits, and the value lines of a recipe.
 pub struct Pair {
     pub cell: Rows,
+    pub limits: [u8; MOST_RESOURCES],
     pub recipe: Rows,
 }
 
 impl Pair {
+    /// The pair with these value lines, and these limits at its first resources.
+    pub fn of_lines(cell: &[&str], limits: &[u8], recipe: &[&str]) -> Pair {
+        let mut pair = Pair {
+            cell: rows_of(cell),
+            limits: NO_LIMITS,
+            recipe: rows_of(recipe),
+        };
+        pair.limits[..limits.len()].copy_from_slice(limits);
+        pair
+    }
+
     /// The lines of two records.
     pub fn of(cell: &Cell, recipe: &Recipe) -> Pair {
         Pair {
             cell: generate::rows::<CellFile>(&cell_bytes(cell)),
+            limits: cell.limits,
             recipe: generate::rows::<RecipeFile>(&recipe_bytes(recipe)),
         }
     }
 
     pub fn cell_bytes(&self) -> Vec<u8> {
-        generate::record::<CellFile>(&self.cell)
+        let mut record = generate::record::<CellFile>(&self.cell);
+        limits_of(&mut record).copy_from_slice(&self.limits);
+        record
     }
 
     pub fn recipe_bytes(&self) -> Vec<u8> {
         generate::record::<RecipeFile>(&self.recipe)
     }
+}
+
+/// The cell without its limits.
+pub fn unlimited(cell: &Cell) -> Cell {
+    Cell {
+        limits: NO_LIMITS,
+        ..cell.clone()
+    }
+}
+
+/// Whether rule 4 is the first that a cell breaks, and by its limits alone.
+pub fn limits_leave_range(cell: &Cell) -> bool {
+    check_cell(cell).number == 4 && check_cell(&unlimited(cell)).number != 4
+}
+
+/// The numbers of value lines.
+fn rows_of(lines: &[&str]) -> Rows {
+    let number = |text: &str| text.parse().expect("a value line has numbers");
+    let row = |line: &&str| line.split(',').map(number).collect();
+    lines.iter().map(row).collect()
+}
+
+/// The limits in the bytes of a cell record.
+pub fn limits_of(record: &mut [u8]) -> &mut [u8] {
+    &mut record[CELL_BYTES - MOST_RESOURCES..CELL_BYTES]
 }
 
 /// How great a pair may become.
@@ -77,7 +120,7 @@ impl Shape {
 }
 
 /// A cell and a recipe of at most this many positions that are accepted. Both use the same few
-/// operations and the cell few ports, so that much of it fits together.
+/// operations and the cell few ports, so that much of it fits together. Two cells in three have limits.
 pub fn good_pair(most_positions: u64, random: &mut Random) -> Pair {
     let shape = Shape::new(most_positions, random);
     let operations: Vec<u32> = (0..1 + random.below(3))
@@ -85,8 +128,20 @@ pub fn good_pair(most_positions: u64, random: &mut Random) -> Pair {
         .collect();
     Pair {
         cell: cell_rows(&shape, &operations, random),
+        limits: match random.below(3) {
+            0 => NO_LIMITS,
+            _ => some_limits(shape.states.len(), random),
+        },
         recipe: recipe_rows(&shape, &operations, random),
     }
+}
+
+/// Limits for so many resources, most of them small.
+pub fn some_limits(resources: usize, random: &mut Random) -> [u8; MOST_RESOURCES] {
+    let mut limits = NO_LIMITS;
+    limits[..resources]
+        .fill_with(|| random.choose(&[1, 1, 1, 1, 2, 2, 2, 3, 4, 5, 6, 7, NO_LIMIT]));
+    limits
 }
 
 /// A cell of 64 lines and a recipe of 64 lines, four at each of 16 points, that are accepted. Each of
@@ -103,6 +158,7 @@ pub fn full_pair() -> Pair {
     };
     Pair {
         cell: (0..64).map(cell).collect(),
+        limits: NO_LIMITS,
         recipe: (0..64).map(recipe).collect(),
     }
 }
@@ -352,9 +408,17 @@ pub fn open_entries(cell: &Cell, recipe: &Recipe, run: &Run) -> Vec<u32> {
     let mut carries = vec![[0; 4]];
     for (i, n) in lines_at(recipe, run.point).into_iter().enumerate() {
         let shorter = std::mem::take(&mut carries);
-        let operation = |&line: &usize| cell.arg[line] == recipe.op[n];
-        for line in with_act(OPERATION).filter(operation) {
-            carries.extend(shorter.iter().map(|letters| {
+        // Only what could be open, or there would be too many to try.
+        let ready = |&line: &usize| {
+            let state = run.configuration.states[usize::from(cell.resource[line])];
+            cell.arg[line] == recipe.op[n] && cell.from[line] == state
+        };
+        for line in with_act(OPERATION).filter(ready) {
+            let shares = |&other: &usize| cell.resource[other] == cell.resource[line];
+            let apart = shorter
+                .iter()
+                .filter(|letters| !letters[..i].iter().any(shares));
+            carries.extend(apart.map(|letters| {
                 let mut letters = *letters;
                 letters[i] = line;
                 letters
@@ -394,6 +458,35 @@ pub fn other_entry(entry: u32, cell: &Cell, random: &mut Random) -> u32 {
         _ => {
             let plausible = letters.map(|_| random.below(count));
             entry_of(1 + random.number(4), plausible)
+        }
+    }
+}
+
+/// Puts most parts at one station, which is then overfull if it has a small limit; but none of those
+/// that a carry names, so that the entry is otherwise open as before. A transfer may mend its giver, so
+/// that this is often the station.
+pub fn crowd(run: &mut Run, entry: u32, cell: &Cell, recipe: &Recipe, random: &mut Random) {
+    let lines = lines_at(recipe, run.point).into_iter();
+    let named = match kind_of(entry) {
+        CARRY => lines.fold(0, |sum, n| sum | recipe.takes[n] | recipe.gives[n]),
+        _ => 0,
+    };
+    let Sizes {
+        resources, parts, ..
+    } = Sizes::of(cell, recipe);
+    let small = |&k: &usize| usize::from(cell.limits[k]) < parts;
+    let stations: Vec<usize> = (0..resources).filter(small).collect();
+    let at_giver = kind_of(entry) == TRANSFER && random.below(4) > 0;
+    let k = if at_giver {
+        usize::from(cell.resource[letters_of(entry)[0]])
+    } else if stations.is_empty() {
+        random.below(resources)
+    } else {
+        random.choose(&stations)
+    };
+    for part in (0..parts).filter(|part| named >> part & 1 == 0) {
+        if random.below(4) > 0 {
+            run.configuration.places[part] = k as u8 + 1;
         }
     }
 }

@@ -47,12 +47,12 @@ pub(crate) fn show_records(f: &mut Formatter, cell: &[u8], recipe: &[u8]) -> Res
         let length = record.len();
         writeln!(f, "{name} of {length} bytes, {count} lines: {lines:?}")?;
     }
-    Ok(())
+    writeln!(f, "limits {:?}", cell_of_bytes(cell).limits)
 }
 
 impl Round {
     /// The run's position, if the round comes past rule 16.
-    fn position(&self) -> Option<u64> {
+    pub fn position(&self) -> Option<u64> {
         let (_, _, sizes) = accepted(&self.cell, &self.recipe)?;
         let run = run_of_bytes(&self.run);
         let held = sizes.holds(run.point, &run.configuration);

@@ -8,6 +8,10 @@ use std::sync::OnceLock;
 const BENCH_CELL: &str = include_str!("../../../examples/bench/cell.csv");
 const BENCH_RECIPE: &str = include_str!("../../../examples/bench/recipe.csv");
 const BENCH_TABLE: &str = include_str!("../../../examples/bench/table.csv");
+const NEST_CELL: &str = include_str!("../../../examples/nest/cell.csv");
+const NEST_RECIPE: &str = include_str!("../../../examples/nest/recipe.csv");
+const NEST_LIMITS: &str = include_str!("../../../examples/nest/limits.csv");
+const ONE_NEST: &str = include_str!("../../../examples/nest/one_nest.csv");
 
 fn root() -> &'static Path {
     Path::new(env!("CARGO_MANIFEST_DIR"))
@@ -97,6 +101,18 @@ fn check(name: &str, cell: Option<&str>, recipe: Option<&str>) {
     compare(name, Command::new(check_files()).args(files));
 }
 
+/// Checks a limits file, where it is given, with this cell and the nest example's recipe.
+fn check_limits(name: &str, cell: &str, limits: Option<&str>) {
+    let files = [
+        ("cell.csv", Some(cell)),
+        ("recipe.csv", Some(NEST_RECIPE)),
+        ("limits.csv", limits),
+    ];
+    let folder = folder(name, &files);
+    let files = files.map(|(file, _)| folder.join(file));
+    compare(name, Command::new(check_files()).args(files));
+}
+
 /// Follows a table of these files.
 fn follow(name: &str, [cell, recipe, table]: [&str; 3], outcomes: &str) {
     let files = [
@@ -117,6 +133,19 @@ fn screen(name: &str, [cell, recipe]: [&str; 2], outcomes: &[&str]) {
     compare(name, Command::new(line_screen()).args(files).args(outcomes));
 }
 
+/// Plans for the nest example with these limits, and follows the plan.
+fn screen_nest(name: &str, limits: &str, outcomes: &[&str]) {
+    let files = [
+        ("limits.csv", Some(limits)),
+        ("cell.csv", Some(NEST_CELL)),
+        ("recipe.csv", Some(NEST_RECIPE)),
+    ];
+    let folder = folder(name, &files);
+    let files = files.map(|(file, _)| folder.join(file));
+    let mut command = Command::new(line_screen());
+    compare(name, command.arg("-l").args(files).args(outcomes));
+}
+
 #[test]
 fn the_bench_example() {
     check("bench", Some(BENCH_CELL), Some(BENCH_RECIPE));
@@ -124,9 +153,19 @@ fn the_bench_example() {
 
 #[test]
 fn the_scripts_build_and_run_the_examples() {
-    for (script, name) in [("run", "bench"), ("follow", "follow"), ("screen", "screen")] {
+    let nest = ["cell.csv", "recipe.csv", "limits.csv"];
+    let limited = "-l limits.csv cell.csv recipe.csv 0 0 0 0 0";
+    let limited: Vec<&str> = limited.split(' ').collect();
+    for (script, arguments, name) in [
+        ("run", &[][..], "bench"),
+        ("follow", &[], "follow"),
+        ("screen", &[], "screen"),
+        ("run", &nest, "nest"),
+        ("screen", &limited, "screen_nest"),
+    ] {
         let output = Command::new(root().join("examples/c").join(script))
-            .current_dir(env!("CARGO_TARGET_TMPDIR"))
+            .args(arguments)
+            .current_dir(root().join("examples/nest"))
             .output()
             .expect("the script starts");
         assert_eq!(String::from_utf8_lossy(&output.stdout), expected(name));
@@ -221,4 +260,40 @@ fn a_recipe_that_strands_a_part() {
     // The station has left the state in which it can test, so that a failed test has no way on.
     let recipe = BENCH_RECIPE.replace("3,1,3,1,0,0,0", "3,2,2,1,0,2,2");
     screen("screen_stranded", [BENCH_CELL, &recipe], &["0"]);
+}
+
+#[test]
+fn limits_files_that_are_accepted() {
+    check_limits("nest", NEST_CELL, Some(NEST_LIMITS));
+    check_limits("limits_two", NEST_CELL, Some("resource,most\n0,1\n1,7\n"));
+    // No recipe has more than eight parts, so that 8 is no limit.
+    check_limits("limits_eight", NEST_CELL, Some("resource,most\n0,8\n"));
+}
+
+#[test]
+fn limits_files_that_are_refused() {
+    check_limits("limits_above", NEST_CELL, Some("resource,most\n1,2\n2,1\n"));
+    check_limits("limits_range", NEST_CELL, Some("resource,most\n1,9\n0,1\n"));
+    check_limits("limits_missing", NEST_CELL, None);
+}
+
+#[test]
+fn limits_of_a_cell_that_is_refused() {
+    let cell = NEST_CELL.replace("1,0,2,5,0", "1,0,2,6,0");
+    check_limits("limits_port", &cell, Some(NEST_LIMITS));
+}
+
+#[test]
+fn the_nest_example_followed_to_its_end() {
+    screen_nest("screen_nest", NEST_LIMITS, &["0"; 5]);
+}
+
+#[test]
+fn one_nest_is_too_few_for_two_parts() {
+    screen_nest("screen_one_nest", ONE_NEST, &["0"; 5]);
+}
+
+#[test]
+fn limits_that_the_screen_refuses() {
+    screen_nest("screen_limits", "resource,most\n1,2\n0,1\n", &["0"]);
 }

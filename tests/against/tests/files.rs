@@ -1,8 +1,8 @@
 //! The library's readers against the independent program, through the C interface.
 
-use against::generate::{self, Generate, Rows};
+use against::generate::{self, Generate};
 use against::random::Random;
-use against::{line_length, line_start, result, CellFile, Format, RecipeFile, TOO_SHORT};
+use against::{line_length, line_start, result, CellFile, Columns, Format, RecipeFile, TOO_SHORT};
 use independent::{value_line, value_line_bytes, Refusal};
 use std::any::type_name;
 
@@ -94,52 +94,11 @@ fn with_lines<F: Format>(lines: &[&str]) -> Vec<u8> {
     file
 }
 
-/// One file of a run: good, changed in its numbers, in its bytes or in both, or without a plan.
-fn seeded_file<F: Generate>(random: &mut Random) -> Vec<u8> {
-    let (mut rows, number_changes, byte_changes) = match random.below(20) {
-        0 => return generate::noise::<F>(random),
-        1 => (rows_of_any_count::<F>(random), 0, random.below(3)),
-        2..=9 => (F::good_rows(random), 1 + random.below(3), 0),
-        10 | 11 => (F::good_rows(random), 1, 1 + random.below(3)),
-        12..=15 => (F::good_rows(random), 0, 1 + random.below(3)),
-        _ => (F::good_rows(random), 0, 0),
-    };
-    for _ in 0..number_changes {
-        change_numbers::<F>(&mut rows, random);
-    }
-    let mut file = generate::file::<F>(&rows);
-    for _ in 0..byte_changes {
-        generate::damage(&mut file, random);
-    }
-    file
-}
-
-fn rows_of_any_count<F: Generate>(random: &mut Random) -> Rows {
-    let lines = random.choose(&[0, 1, 2, 63, 64, 65, 66, 1000]);
-    if random.coin() {
-        generate::rows_in_range::<F>(lines, random)
-    } else {
-        let rows = F::good_rows(random);
-        rows.iter().cycle().take(lines).cloned().collect()
-    }
-}
-
-fn change_numbers<F: Generate>(rows: &mut Rows, random: &mut Random) {
-    // Rules 1 to 3 are not about numbers.
-    let rules = &F::REFUSALS[3..];
-    match random.below(8) {
-        0 => generate::try_bounds::<F>(rows, random),
-        1 => generate::move_rows(rows, random),
-        2 => generate::change_in_range::<F>(rows, random),
-        _ => F::break_rule(random.choose(rules), rows, random),
-    }
-}
-
-fn compare_seeded_files<F: Generate>(seed: u64) {
+fn compare_seeded_files<F: Generate + Format>(seed: u64) {
     let mut random = Random::new(seed);
     let mut seen = [0; 256];
     for _ in 0..FILES {
-        let file = seeded_file::<F>(&mut random);
+        let file = generate::seeded_file::<F>(F::good_rows, &mut random);
         seen[usize::from(compare::<F>(&file, &mut random))] += 1;
     }
     println!("{}: {} accepted", type_name::<F>(), seen[0]);
@@ -186,13 +145,14 @@ fn one_byte_from_the_bench_example() {
 
 #[test]
 fn the_bench_example_is_accepted_with_its_record() {
-    let mut record = [0xff; 321];
+    let mut record = [0xff; 327];
     assert_eq!(CellFile::library(BENCH_CELL, &mut record), 0);
     let lines = [
         5, 0, 0, 1, 1, 1, 0, 1, 3, 5, 0, 1, 0, 2, 5, 1, 1, 1, 1, 2, 2, 1, 2, 1, 3, 0,
     ];
     assert_eq!(record[..26], lines);
-    assert_eq!(record[26..], [0; 295]);
+    assert_eq!(record[26..321], [0; 295]);
+    assert_eq!(record[321..], [8; 6]);
 
     let mut record = [0xff; 449];
     assert_eq!(RecipeFile::library(BENCH_RECIPE, &mut record), 0);
@@ -310,7 +270,7 @@ fn each_refusal_of_a_recipe() {
 }
 
 /// Each field of each line of a good file, at the top of its range and past it.
-fn compare_bounds<F: Generate>(seed: u64) {
+fn compare_bounds<F: Generate + Format>(seed: u64) {
     let mut random = Random::new(seed);
     let rows = F::good_rows(&mut random);
     for n in 0..rows.len() {
@@ -382,8 +342,8 @@ fn compare_buffers<F: Format>(good: &[u8]) {
         F::library(refused, &mut record),
         result(Refusal { number: 2, line })
     );
-    assert!(record[..F::RECORD_BYTES].iter().all(|&byte| byte == 0));
-    assert_eq!(record[F::RECORD_BYTES], 0x5a);
+    let no_lines = [&generate::record::<F>(&[])[..], &[0x5a]].concat();
+    assert_eq!(record, no_lines);
 }
 
 #[test]
@@ -392,7 +352,7 @@ fn record_buffers_of_every_length() {
     compare_buffers::<RecipeFile>(BENCH_RECIPE);
     for length in 0..=CellFile::RECORD_BYTES {
         let mut record = vec![0; length];
-        let expected = if length < 321 { 14 } else { 0 };
+        let expected = if length < 327 { 14 } else { 0 };
         assert_eq!(CellFile::library(BENCH_CELL, &mut record), expected);
     }
     for length in 0..=RecipeFile::RECORD_BYTES {

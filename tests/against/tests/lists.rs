@@ -5,7 +5,7 @@ use against::lists::{Form, List, Seen};
 use against::pairs;
 use against::random::Random;
 use against::rounds::{accepted, Table};
-use independent::{kind_of, Book, Cell, Recipe, Run, Sizes, CARRY};
+use independent::{is_open, kind_of, Book, Cell, Recipe, Run, Sizes, CARRY};
 
 /// Pairs of a cell and a recipe, lists over each, and calls in a list.
 const PAIRS: usize = 300;
@@ -18,15 +18,21 @@ const MOST_POSITIONS: u64 = 1_024;
 /// How often each kind of move must be issued at least, and each refusal be given.
 const LEAST_SEEN: usize = 1_000;
 
-/// A table with an open entry at most positions that have one, and here and there some other.
+/// A table with an open entry at most positions that have one, and here and there some other, or one
+/// that only the limits shut.
 fn seeded_table((cell, recipe, sizes): &(Cell, Recipe, Sizes), random: &mut Random) -> Vec<u32> {
+    let unlimited = pairs::unlimited(cell);
     let entry = |position| {
         let (point, configuration) = sizes.at(position);
         let run = Run {
             point,
             configuration,
         };
-        let mut open = pairs::open_entries(cell, recipe, &run);
+        let look_at = match random.below(8) {
+            0 => &unlimited,
+            _ => cell,
+        };
+        let mut open = pairs::open_entries(look_at, recipe, &run);
         let is_carry = |&entry: &u32| kind_of(entry) == CARRY;
         if open.iter().any(is_carry) && random.coin() {
             open.retain(is_carry);
@@ -44,8 +50,21 @@ fn seeded_table((cell, recipe, sizes): &(Cell, Recipe, Sizes), random: &mut Rand
     (0..sizes.positions).map(entry).collect()
 }
 
-/// Lists over one pair, from a fresh run and from other positions.
-fn compare_pair(random: &mut Random, seen: &mut Seen) {
+/// The positions at which only the limits shut the entry.
+fn shut_positions((cell, recipe, sizes): &(Cell, Recipe, Sizes), table: &[u32]) -> Vec<u64> {
+    let unlimited = pairs::unlimited(cell);
+    let is_shut = |&position: &u64| {
+        let (point, configuration) = sizes.at(position);
+        let entry = table[position as usize];
+        let open = |cell| is_open(cell, recipe, point, &configuration, entry);
+        open(&unlimited) && !open(cell)
+    };
+    (0..sizes.positions).filter(is_shut).collect()
+}
+
+/// Lists over one pair, from a fresh run and from other positions. How many calls were made where only
+/// the limits shut the move.
+fn compare_pair(random: &mut Random, seen: &mut Seen) -> usize {
     let pair = pairs::good_pair(MOST_POSITIONS, random);
     let (cell, recipe) = (pair.cell_bytes(), pair.recipe_bytes());
     let records = accepted(&cell, &recipe).expect("a good pair is accepted");
@@ -56,25 +75,39 @@ fn compare_pair(random: &mut Random, seen: &mut Seen) {
         recipe: &recipe,
         table: entries,
     };
+    let shut = shut_positions(&records, entries);
+    let mut calls_where_shut = 0;
     for n in 0..LISTS {
         let position = match n % 4 {
             0 => 0,
+            1 if !shut.is_empty() => random.choose(&shut),
             _ => random.below(entries.len()) as u64,
         };
         let mut book = Book::from_position(&records.0, &records.1, entries, position);
-        seen.add(&list.compare(CALLS, Form::Value, &mut book, random));
+        let list_seen = list.compare(CALLS, Form::Value, &mut book, random);
+        if shut.contains(&position) {
+            calls_where_shut += list_seen.next_moves[18] + list_seen.reports[18];
+        }
+        seen.add(&list_seen);
     }
     table.assert_unchanged(entries.len());
+    calls_where_shut
 }
 
 #[test]
 fn seeded_lists_of_calls() {
     let mut random = Random::new(4);
     let mut seen = Seen::default();
+    let mut shut = 0;
     for _ in 0..PAIRS {
-        compare_pair(&mut random, &mut seen);
+        shut += compare_pair(&mut random, &mut seen);
     }
     println!("reports by refusal {:?}", seen.reports);
+    println!(
+        "{shut} calls refused for the limits alone, {} with overfull stations",
+        seen.overfull
+    );
+    assert!(shut >= LEAST_SEEN && seen.overfull >= LEAST_SEEN);
     println!("issued by kind {:?}", seen.issued);
     assert!(seen.issued[1..=3].iter().all(|&times| times >= LEAST_SEEN));
     assert!(seen.reports[17..].iter().all(|&times| times >= LEAST_SEEN));

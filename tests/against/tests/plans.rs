@@ -3,13 +3,14 @@
 
 use against::calls::{Calls, Library};
 use against::generate::{self, Rows};
+use against::pairs::{limits_of, Pair};
 use against::plans::{Handed, Planned};
 use against::random::Random;
 use against::rounds::accepted;
 use against::{CellFile, Format, RecipeFile};
 use independent::{
     cell_bytes, dense_pair, long_ways_pair, mixed_pair, recipe_bytes, Cell, Recipe, Sizes,
-    MOST_POSITIONS, RUN_BYTES,
+    CELL_BYTES, MOST_POSITIONS, MOST_RESOURCES, RUN_BYTES,
 };
 
 const BENCH_CELL: &[u8] = include_bytes!("../../../examples/bench/cell.csv");
@@ -151,10 +152,131 @@ fn the_rules_are_tried_in_their_order() {
         handed.recipe[at] = number;
         expect(&handed, refusal);
     }
-    // Cell line 2 with another port, of no act; then too many lines.
-    for (at, number, refusal) in [(14, 6, 6), (13, 4, 4), (0, 65, 3)] {
+    // A limit of a resource that isn't there; cell line 2 with another port; line 4 of a resource with
+    // a gap before it; a limit out of range; line 2 of no act; then too many lines.
+    for (at, number, refusal) in [
+        (CELL_BYTES - 1, 7, 20),
+        (14, 6, 6),
+        (21, 3, 5),
+        (CELL_BYTES - MOST_RESOURCES, 9, 4),
+        (13, 4, 4),
+        (0, 65, 3),
+    ] {
         handed.cell[at] = number;
         expect(&handed, refusal);
+    }
+}
+
+/// Plans a pair with a table and a scratch that are just long enough.
+fn plan_pair(pair: &Pair) -> Planned {
+    let (cell, recipe) = (pair.cell_bytes(), pair.recipe_bytes());
+    let (_, _, sizes) = accepted(&cell, &recipe).expect("the pair is accepted");
+    let positions = sizes.positions as usize;
+    let handed = Handed {
+        cell,
+        recipe,
+        entries: positions,
+        scratch: positions,
+    };
+    handed.plan(&mut Random::new(10))
+}
+
+#[test]
+fn a_nest_for_one_part_does_not_hold_two() {
+    let recipe = ["0,1,1,0,1,1,0", "1,1,1,0,2,2,0", "2,0,0,0,0,0,0"];
+    let nest = |most| plan_pair(&Pair::of_lines(&["0,0,1,1,0"], &[most], &recipe));
+    for most in 2..=8 {
+        let Planned { refusal, table } = nest(most);
+        assert_eq!((refusal, table.len(), table[11]), (0, 12, STAY));
+    }
+    let Planned { refusal, table } = nest(1);
+    assert_eq!((refusal, table[0], table[5]), (15, 0, 0));
+    // From an empty nest the second part alone is given.
+    assert_eq!(table[4], 50_331_648);
+    // The ends at which the nest isn't overfull.
+    assert_eq!(table[8..], [STAY, STAY, STAY, 0]);
+}
+
+#[test]
+fn every_limit_of_every_resource() {
+    let mut random = Random::new(12);
+    let recipe = ["0,1,1,0,1,1,0", "1,1,1,0,2,2,0", "2,0,0,0,0,0,0"];
+    let pair = Pair::of_lines(&["0,0,1,1,0"], &[], &recipe);
+    for k in 0..MOST_RESOURCES {
+        for most in 0..=255 {
+            let mut handed = Handed {
+                cell: pair.cell_bytes(),
+                recipe: pair.recipe_bytes(),
+                entries: 12,
+                scratch: 12,
+            };
+            limits_of(&mut handed.cell)[k] = most;
+            let expected = match (k, most) {
+                (_, 0 | 9..) => 4,
+                (0, 1) => 15,
+                (0, _) | (_, 8) => 0,
+                _ => 20,
+            };
+            assert_eq!(handed.plan(&mut random).refusal, expected, "{handed}");
+        }
+    }
+}
+
+#[test]
+fn two_parts_wait_in_a_nest_for_both() {
+    let cell = ["0,0,1,1,1", "0,1,3,5,0", "1,0,2,5,0", "1,0,1,2,0"];
+    let recipe = [
+        "0,1,1,0,1,1,0",
+        "1,1,1,0,2,2,0",
+        "2,1,2,3,0,3,0",
+        "3,0,0,0,0,0,0",
+    ];
+    for (limits, refusal) in [
+        (&[8, 2], 0),
+        (&[1, 2], 0),
+        (&[8, 1], 15),
+        (&[2, 1], 15),
+        (&[8, 8], 0),
+    ] {
+        let pair = Pair::of_lines(&cell, limits, &recipe);
+        assert_eq!(plan_pair(&pair).refusal, refusal);
+    }
+}
+
+#[test]
+fn a_move_that_mends_leads_to_a_plan_and_is_in_none() {
+    let cell = ["0,0,1,1,0", "0,0,3,0,0", "1,0,2,0,0"];
+    let recipe = [
+        "0,1,1,0,1,1,0",
+        "1,1,1,0,2,2,0",
+        "2,1,1,0,4,3,0",
+        "3,0,0,0,0,0,0",
+    ];
+    let Planned { refusal, table } = plan_pair(&Pair::of_lines(&cell, &[1, 8], &recipe));
+    // At 58 two parts stand at the first station, at 62 both at the second.
+    assert_eq!((refusal, table[58]), (0, 0));
+    assert_ne!(table[62], 0);
+    let Planned { refusal, table } = plan_pair(&Pair::of_lines(&cell, &[2, 8], &recipe));
+    assert_eq!((refusal, table[58]), (0, 33_554_561));
+}
+
+#[test]
+fn so_many_parts_need_so_great_a_limit() {
+    let mut random = Random::new(11);
+    for resources in 1..=3 {
+        for parts in 1..=8 {
+            for most in 1..=8 {
+                let mut handed = shaped(resources, parts, 3);
+                if handed.entries > 40_000 {
+                    continue;
+                }
+                let limits = limits_of(&mut handed.cell);
+                limits[..resources as usize].fill(most);
+                let refusal = handed.plan(&mut random).refusal;
+                let fits = parts <= most.into();
+                assert_eq!(refusal, if fits { 0 } else { 15 }, "{handed}");
+            }
+        }
     }
 }
 
@@ -295,6 +417,15 @@ fn as_many_positions_as_there_may_be() {
         handed.entries += 1;
         handed.scratch -= more + 1;
         assert_eq!(handed.plan(&mut random).refusal, 14);
+    }
+    // With limits too.
+    for (limits, refusal) in [([2, 2, 5], 0), ([2, 2, 4], 15)] {
+        let (mut cell, recipe) = dense_pair();
+        cell.limits[..3].copy_from_slice(&limits);
+        assert_eq!(
+            handed(&(cell, recipe), 0).plan(&mut random).refusal,
+            refusal
+        );
     }
     // A fifth state in one station, and it is 13.
     let (mut cell, recipe) = dense_pair();

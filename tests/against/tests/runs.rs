@@ -3,10 +3,13 @@
 
 use against::calls::{Calls, Independent, Library};
 use against::generate::{self, Rows};
-use against::pairs::full_pair;
+use against::pairs::{full_pair, limits_of, Pair};
 use against::rounds::{accepted, compare, Round, Table};
 use against::{CellFile, Format, RecipeFile};
-use independent::{entry_of, run_bytes, run_of_bytes, Run, CARRY, MOST_POSITIONS, RUN_BYTES};
+use independent::{
+    entry_of, run_bytes, run_of_bytes, Run, CARRY, CELL_BYTES, MOST_POSITIONS, MOST_RESOURCES,
+    RUN_BYTES,
+};
 
 const BENCH_CELL: &[u8] = include_bytes!("../../../examples/bench/cell.csv");
 const BENCH_RECIPE: &[u8] = include_bytes!("../../../examples/bench/recipe.csv");
@@ -34,7 +37,12 @@ fn bench() -> (Vec<u8>, Vec<u8>, Vec<u32>) {
 /// The bytes of the run at a position of the bench example.
 fn bench_run(position: u64) -> Vec<u8> {
     let (cell, recipe, _) = bench();
-    let (_, _, sizes) = accepted(&cell, &recipe).expect("the bench example is accepted");
+    run_at(&cell, &recipe, position)
+}
+
+/// The bytes of the run at a position of records that are accepted.
+fn run_at(cell: &[u8], recipe: &[u8], position: u64) -> Vec<u8> {
+    let (_, _, sizes) = accepted(cell, recipe).expect("the records are accepted");
     let (point, configuration) = sizes.at(position);
     run_bytes(&Run {
         point,
@@ -133,15 +141,123 @@ fn the_cell_is_judged_before_the_recipe_and_both_before_the_rest() {
         recipe[at] = number;
         answers(&cell, &recipe, refusal);
     }
-    // Cell line 2 with another port, of no act; then too many lines.
-    for (at, number, refusal) in [(14, 6, 6), (13, 4, 4), (0, 65, 3)] {
+    // A limit of a resource that isn't there; cell line 2 with another port; line 4 of a resource with
+    // a gap before it; a limit out of range; line 2 of no act; then too many lines.
+    for (at, number, refusal) in [
+        (CELL_BYTES - 1, 7, 20),
+        (14, 6, 6),
+        (21, 3, 5),
+        (CELL_BYTES - MOST_RESOURCES, 9, 4),
+        (13, 4, 4),
+        (0, 65, 3),
+    ] {
         cell[at] = number;
         answers(&cell, &recipe, refusal);
     }
 }
 
-/// Compares the calls on the bench example with this run, at each outcome.
-fn compare_bench(cell: &[u8], recipe: &[u8], run: &[u8], table: &Table) {
+/// The answers of a next-move call and a report at a position of records that are accepted, in a table
+/// with this entry there. Both calls must answer as the independent program's do.
+fn answers_at(pair: &Pair, position: u64, entry: u32) -> (u64, u32) {
+    let (cell, recipe) = (pair.cell_bytes(), pair.recipe_bytes());
+    let (_, _, sizes) = accepted(&cell, &recipe).expect("the pair is accepted");
+    let mut table = Table::new(vec![0; sizes.positions as usize]);
+    table.set(position, entry);
+    let round = Round {
+        run: run_at(&cell, &recipe, position),
+        cell,
+        recipe,
+        entries: table.entries().len(),
+        outcome: 1,
+        part: 0,
+    };
+    let answers = compare(&round, &table);
+    (answers.next_move, answers.report)
+}
+
+/// A nest for parts that are given one after the other.
+fn nest(most: u8) -> Pair {
+    let recipe = ["0,1,1,0,1,1,0", "1,1,1,0,2,2,0", "2,0,0,0,0,0,0"];
+    Pair::of_lines(&["0,0,1,1,0"], &[most], &recipe)
+}
+
+#[test]
+fn a_move_that_overfills_a_station_is_not_open_and_an_end_is_an_end() {
+    let carry = 50_331_648;
+    assert_eq!(answers_at(&nest(1), 0, carry), (carry.into(), 0));
+    assert_eq!(answers_at(&nest(1), 5, carry), both(18));
+    assert_eq!(answers_at(&nest(2), 5, carry), (carry.into(), 0));
+    // Both parts stand in the nest at the end.
+    for most in [1, 2] {
+        assert_eq!(answers_at(&nest(most), 11, 67_108_864), (67_108_864, 19));
+        assert_eq!(answers_at(&nest(most), 11, carry), both(18));
+    }
+}
+
+#[test]
+fn a_move_that_mends_an_overfull_station_is_open() {
+    let lines = ["0,0,1,1,0", "0,0,3,0,0", "1,0,2,0,0", "1,0,0,0,0"];
+    let recipe = [
+        "0,1,1,0,1,1,0",
+        "1,1,1,0,2,2,0",
+        "2,1,1,0,4,3,0",
+        "3,0,0,0,0,0,0",
+    ];
+    let limited = |limits| Pair::of_lines(&lines, limits, &recipe);
+    let (carry, hand_over, work) = (50_331_648, 33_554_561, 16_777_219);
+    for (limits, open) in [
+        // The first station is mended, and nothing else may be done before.
+        (&[1, 8], [false, true, false]),
+        (&[2, 8], [false, true, true]),
+        (&[3, 8], [true, true, true]),
+        // The parts that it hands over would be too many for the second.
+        (&[1, 1], [false, false, false]),
+        (&[3, 1], [true, false, true]),
+    ] {
+        for (entry, open) in [carry, hand_over, work].into_iter().zip(open) {
+            let expected = if open { (entry.into(), 0) } else { both(18) };
+            assert_eq!(answers_at(&limited(limits), 58, entry), expected);
+        }
+    }
+}
+
+#[test]
+fn a_station_is_filled_up_to_every_limit() {
+    // So many parts stand at the first of two stations, and one more is given there.
+    let recipe = ["0,1,1,0,128,1,0", "1,0,0,0,0,0,0"];
+    let cell = ["0,0,1,1,0", "1,0,1,2,0"];
+    for most in 1..=8 {
+        let pair = Pair::of_lines(&cell, &[most, 1], &recipe);
+        for parts in 0..8u32 {
+            let position = (3u64.pow(parts) - 1) / 2;
+            let answers = answers_at(&pair, position, 50_331_648);
+            let open = parts < most.into();
+            assert_eq!(answers, if open { (50_331_648, 0) } else { both(18) });
+        }
+    }
+}
+
+#[test]
+fn parts_are_counted_after_the_whole_carry() {
+    // Two stations exchange one part for two.
+    let cell = ["0,0,1,1,0", "1,0,1,1,0"];
+    let recipe = ["0,1,1,1,6,1,0", "0,1,1,6,1,1,0", "1,0,0,0,0,0,0"];
+    let carry = entry_of(CARRY, [0, 1, 0, 0]);
+    let position = 1 + 2 * 3 + 2 * 9;
+    for (limits, open) in [
+        (&[2, 1], true),
+        (&[8, 8], true),
+        (&[1, 2], false),
+        (&[1, 1], false),
+    ] {
+        let pair = Pair::of_lines(&cell, limits, &recipe);
+        let expected = if open { (carry.into(), 0) } else { both(18) };
+        assert_eq!(answers_at(&pair, position, carry), expected);
+    }
+}
+
+/// Compares the calls on two records with this run, at each outcome.
+fn compare_outcomes(cell: &[u8], recipe: &[u8], run: &[u8], table: &Table) {
     for (outcome, part) in [(0, 0), (1, 1), (2, 255)] {
         let round = Round {
             cell: cell.to_vec(),
@@ -159,18 +275,41 @@ fn compare_bench(cell: &[u8], recipe: &[u8], run: &[u8], table: &Table) {
 fn one_byte_from_the_bench_example() {
     let (cell, recipe, table) = bench();
     let table = Table::new(table);
-    // The lines and one more, which counts for nothing.
-    for (record, lines) in [(0, 1 + 6 * 5), (1, 1 + 6 * 7), (2, RUN_BYTES)] {
-        for at in 0..lines {
+    // The lines and one more, which counts for nothing; and the limits.
+    for (record, places) in [
+        (0, 0..1 + 6 * 5),
+        (0, CELL_BYTES - MOST_RESOURCES..CELL_BYTES),
+        (1, 0..1 + 6 * 7),
+        (2, 0..RUN_BYTES),
+    ] {
+        for at in places {
             for byte in 0..=255 {
                 let mut handed = [cell.clone(), recipe.clone(), bench_run(26)];
                 handed[record][at] = byte;
                 let [cell, recipe, run] = handed;
-                compare_bench(&cell, &recipe, &run, &table);
+                compare_outcomes(&cell, &recipe, &run, &table);
             }
         }
     }
     table.assert_unchanged(90);
+}
+
+#[test]
+fn every_limit_and_every_place_of_two_parts() {
+    let pair = nest(1);
+    let (mut cell, recipe) = (pair.cell_bytes(), pair.recipe_bytes());
+    let mut table = Table::new(vec![50_331_648; 12]);
+    (8..12).for_each(|position| table.set(position, 67_108_864));
+    for k in 0..MOST_RESOURCES {
+        for most in 0..=255 {
+            limits_of(&mut cell)[k] = most;
+            for position in 0..12 {
+                let run = run_at(&pair.cell_bytes(), &recipe, position);
+                compare_outcomes(&cell, &recipe, &run, &table);
+            }
+        }
+        limits_of(&mut cell)[k] = 8;
+    }
 }
 
 #[test]
@@ -185,7 +324,7 @@ fn every_entry_near_to_one_of_the_bench_example() {
         let letters = (0..4096).map(|low| near & 0xffff_f000 | low);
         for entry in bits.chain(kinds).chain(letters) {
             table.set(position, entry);
-            compare_bench(&cell, &recipe, &run, &table);
+            compare_outcomes(&cell, &recipe, &run, &table);
         }
     }
     table.assert_unchanged(90);
@@ -198,19 +337,19 @@ fn slices_of_every_length() {
     let run = bench_run(22);
     let longer = |bytes: &[u8]| [bytes, &[0x5a; 20]].concat();
     for length in 0..CellFile::RECORD_BYTES + 20 {
-        compare_bench(&longer(&cell)[..length], &recipe, &run, &table);
-        compare_bench(&longer(&cell)[..length], &recipe[..9], &run, &table);
+        compare_outcomes(&longer(&cell)[..length], &recipe, &run, &table);
+        compare_outcomes(&longer(&cell)[..length], &recipe[..9], &run, &table);
     }
     for length in 0..RecipeFile::RECORD_BYTES + 20 {
-        compare_bench(&cell, &longer(&recipe)[..length], &run, &table);
+        compare_outcomes(&cell, &longer(&recipe)[..length], &run, &table);
     }
     for length in 0..RUN_BYTES + 20 {
-        compare_bench(&cell, &recipe, &longer(&run)[..length], &table);
+        compare_outcomes(&cell, &recipe, &longer(&run)[..length], &table);
     }
     for length in 0..=90 {
         let shorter = Table::new(table.entries()[..length].to_vec());
-        compare_bench(&cell, &recipe, &run, &shorter);
-        compare_bench(&cell, &recipe, &run[..14], &shorter);
+        compare_outcomes(&cell, &recipe, &run, &shorter);
+        compare_outcomes(&cell, &recipe, &run[..14], &shorter);
     }
 }
 

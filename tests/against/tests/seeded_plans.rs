@@ -4,14 +4,14 @@
 use against::calls::{Calls, Library};
 use against::damage::seeded_records;
 use against::lists::{self, Form, List};
-use against::pairs::{self, Pair};
+use against::pairs::{self, limits_leave_range, unlimited, Pair, NO_LIMITS};
 use against::plans::{Handed, Planned};
 use against::random::Random;
 use against::rounds::accepted;
 use independent::{
-    cell_bytes, dense_pair, joint_choices, judge, kind_of, likely_pair, long_ways_pair, mixed_pair,
-    odometer_pair, recipe_bytes, Book, Cell, Recipe, Sizes, FEW_JOINT_CHOICES, MOST_POSITIONS,
-    STAY,
+    cell_bytes, cell_of_bytes, dense_pair, is_overfull, joint_choices, judge, kind_of, likely_pair,
+    limited_pair, long_ways_pair, mixed_pair, odometer_pair, plan, recipe_bytes, Book, Cell,
+    Recipe, Sizes, FEW_JOINT_CHOICES, MOST_POSITIONS, STAY,
 };
 
 /// Small pairs of a cell and a recipe that are planned. Each is also planned with too short a table or
@@ -36,6 +36,9 @@ const LAST_CALLS: usize = 4;
 /// The most positions with which a damaged pair is planned. Greater ones get too short a table.
 const MOST_DAMAGED: usize = 4_000;
 
+/// The most positions with which it is looked at what a cell's limits have changed.
+const FEW_POSITIONS: usize = 5_000;
+
 /// The recipe kinds.
 const END: u8 = 0;
 const TEST: u8 = 2;
@@ -44,7 +47,10 @@ const TEST: u8 = 2;
 #[derive(Default)]
 struct Seen {
     /// Plan calls by their refusal.
-    refusals: [usize; 20],
+    refusals: [usize; 21],
+    /// Plan calls refused with 4 for a limit alone.
+    limits_past_range: usize,
+    limited: Limited,
     /// Planned tables by R, P and N.
     resources: [usize; 7],
     parts: [usize; 9],
@@ -64,9 +70,78 @@ struct Seen {
     lists: lists::Seen,
 }
 
+/// What was seen of planned tables of cells with limits.
+#[derive(Default)]
+struct Limited {
+    planned: usize,
+    accepted: usize,
+    /// Those with positions that have an overfull station, at an end and elsewhere.
+    overfull: [usize; 2],
+    /// Of those whose positions without limits were looked at: refused for the limits alone, and accepted
+    /// with fewer entries at positions without an overfull station.
+    lost: usize,
+    narrowed: usize,
+}
+
+impl Limited {
+    fn note(&mut self, (cell, recipe, sizes): &(Cell, Recipe, Sizes), planned: &Planned) {
+        let overfull: Vec<bool> = (0..sizes.positions)
+            .map(|position| is_overfull(cell, &sizes.at(position).1))
+            .collect();
+        self.planned += 1;
+        self.accepted += usize::from(planned.refusal == 0);
+        let mut found = [false; 2];
+        for point in 0..sizes.points as u8 {
+            let is_end = recipe.kind[pairs::lines_at(recipe, point)[0]] == END;
+            found[usize::from(!is_end)] |= at_point(sizes, &overfull, point).contains(&true);
+        }
+        (0..2).for_each(|n| self.overfull[n] += usize::from(found[n]));
+        if overfull.len() <= FEW_POSITIONS {
+            self.note_without_limits(cell, recipe, &overfull, planned);
+        }
+    }
+
+    /// Notes what the limits have changed.
+    fn note_without_limits(
+        &mut self,
+        cell: &Cell,
+        recipe: &Recipe,
+        overfull: &[bool],
+        planned: &Planned,
+    ) {
+        let positions = overfull.len();
+        let mut wide = vec![0; positions];
+        let refusal = plan(&unlimited(cell), recipe, &mut wide, positions);
+        let lost = |p: usize| !overfull[p] && planned.table[p] == 0 && wide[p] != 0;
+        match planned.refusal {
+            0 => self.narrowed += usize::from((0..positions).any(lost)),
+            _ => self.lost += usize::from(refusal == 0),
+        }
+    }
+
+    /// Wants many of both answers, and of what the limits can change.
+    fn judge(&self) {
+        assert!(3 * self.accepted >= self.planned, "too few are accepted");
+        let seen = [self.lost, self.narrowed, self.overfull[0], self.overfull[1]];
+        assert!(seen.iter().all(|&times| times >= 500), "{seen:?}");
+    }
+
+    fn print(&self) {
+        println!(
+            "with limits {} planned, {} accepted, {:?} with overfull ends and other positions",
+            self.planned, self.accepted, self.overfull
+        );
+        println!(
+            "{} refused for the limits alone, {} accepted with fewer entries",
+            self.lost, self.narrowed
+        );
+    }
+}
+
 impl Seen {
     /// Notes a planned table.
-    fn note(&mut self, (cell, recipe, sizes): &(Cell, Recipe, Sizes), planned: &Planned) {
+    fn note(&mut self, records: &(Cell, Recipe, Sizes), planned: &Planned) {
+        let (cell, recipe, sizes) = records;
         self.resources[sizes.resources] += 1;
         self.parts[sizes.parts] += 1;
         self.points[sizes.points as usize] += 1;
@@ -85,6 +160,9 @@ impl Seen {
         }
         if planned.refusal == 0 {
             self.note_accepted(recipe, sizes, table);
+        }
+        if cell.limits != NO_LIMITS {
+            self.limited.note(records, planned);
         }
     }
 
@@ -113,6 +191,8 @@ impl Seen {
 
     fn print(&self) {
         println!("plans by refusal {:?}", self.refusals);
+        println!("{} of these 4 for a limit alone", self.limits_past_range);
+        self.limited.print();
         println!("planned by R {:?}", &self.resources[1..]);
         println!("planned by P {:?}", self.parts);
         println!("planned by N {:?}", &self.points[1..]);
@@ -128,18 +208,19 @@ impl Seen {
             &self.parallel[1..]
         );
         println!(
-            "{} calls, next-moves by refusal {:?}, reports {:?}, issued by kind {:?}, {} in a row",
+            "{} calls, next-moves by refusal {:?}, reports {:?}, issued by kind {:?}, {} in a row, {} overfull",
             self.lists.calls,
             self.lists.next_moves,
             self.lists.reports,
             &self.lists.issued[1..],
-            self.lists.silent
+            self.lists.silent,
+            self.lists.overfull
         );
     }
 }
 
-/// The entries at a point.
-fn at_point<'a>(sizes: &Sizes, table: &'a [u32], point: u8) -> &'a [u32] {
+/// The part of a table for the positions of a point.
+fn at_point<'a, T>(sizes: &Sizes, table: &'a [T], point: u8) -> &'a [T] {
     let configurations = (sizes.joint_states * sizes.placings) as usize;
     &table[usize::from(point) * configurations..][..configurations]
 }
@@ -201,12 +282,13 @@ fn plan_and_follow(
     }
 }
 
-/// Beside the answers: from an entry, 18 is never given and silent moves in a row are few; from a 0
-/// nothing is issued.
+/// Beside the answers: from an entry, 18 is never given, silent moves in a row are few and no station is
+/// overfull before or after a call; from a 0 nothing is issued.
 fn keeps_promises(seen: &lists::Seen, promised: bool, sizes: &Sizes) -> bool {
     let shut = seen.next_moves[18] + seen.reports[18];
+    let in_time = seen.silent < sizes.joint_states * sizes.placings;
     match promised {
-        true => shut == 0 && seen.silent < sizes.joint_states * sizes.placings,
+        true => shut == 0 && in_time && seen.overfull == 0,
         false => seen.issued == [0; 5],
     }
 }
@@ -293,7 +375,16 @@ fn plan_damaged(pair: &Pair, random: &mut Random, seen: &mut Seen) {
         entries: entries.min(MOST_DAMAGED),
         scratch: scratch.min(MOST_DAMAGED),
     };
-    seen.refusals[handed.plan(random).refusal as usize] += 1;
+    let refusal = handed.plan(random).refusal;
+    seen.refusals[refusal as usize] += 1;
+    let cell = cell_of_bytes(&handed.cell);
+    seen.limits_past_range += usize::from(limits_leave_range(&cell));
+}
+
+/// A seeded pair, every other one with limits.
+fn either_pair(n: usize, most: u64, source: &mut independent::Random) -> (Cell, Recipe) {
+    let pair = [likely_pair, limited_pair][n % 2];
+    pair(most, source)
 }
 
 #[test]
@@ -306,8 +397,8 @@ fn small_pairs() {
         calls: 24,
     };
     for n in 0..SMALL_PAIRS {
-        let most = [60, 400, 400, 400, 2_000, 5_000][n % 6];
-        let pair = likely_pair(most, &mut source);
+        let most = [60, 400, 400, 400, 2_000, 5_000][n / 2 % 6];
+        let pair = either_pair(n, most, &mut source);
         plan_short(&pair, &mut random, &mut seen);
         let rows = match n % 16 {
             0 => pairs::good_pair(u64::MAX, &mut random),
@@ -322,10 +413,12 @@ fn small_pairs() {
     seen.print();
     for (refusal, times) in seen.refusals.into_iter().enumerate() {
         match refusal {
-            1 | 2 | 16.. => assert_eq!(times, 0, "the planner cannot give {refusal}"),
+            1 | 2 | 16..=19 => assert_eq!(times, 0, "the planner cannot give {refusal}"),
             _ => assert!(times >= 300, "{refusal} was seen too seldom"),
         }
     }
+    assert!(seen.refusals[20] >= 1_000 && seen.limits_past_range >= 1_000);
+    seen.limited.judge();
     assert!(3 * seen.accepted > SMALL_PAIRS);
     assert!(seen.by_joint_steps > SMALL_PAIRS / 2 && seen.mixed > SMALL_PAIRS / 4);
     let others = [seen.tests, seen.forgotten];
@@ -351,8 +444,8 @@ fn one_table_for_many_pairs() {
     let mut source = independent::Random(16);
     let (mut table, mut scratch) = (vec![0; 2_000], vec![0; 2_000]);
     let mut refusals = [0; 20];
-    for _ in 0..3_000 {
-        let (cell, recipe) = likely_pair(2_000, &mut source);
+    for n in 0..3_000 {
+        let (cell, recipe) = either_pair(n, 2_000, &mut source);
         let positions = Sizes::of(&cell, &recipe).positions as usize;
         let past = table[positions..].to_vec();
         let records = (cell_bytes(&cell), recipe_bytes(&recipe));
@@ -377,7 +470,7 @@ fn great_pairs() {
     };
     let (mut planned, mut over_half) = (0, 0);
     while planned < GREAT_PAIRS {
-        let pair = likely_pair(MOST_POSITIONS, &mut source);
+        let pair = either_pair(planned, MOST_POSITIONS, &mut source);
         let positions = Sizes::of(&pair.0, &pair.1).positions;
         if positions <= GREAT {
             continue;
@@ -392,6 +485,9 @@ fn great_pairs() {
         refusals, kinds, ..
     } = &seen;
     assert!(refusals[0] >= 17 && refusals[15] >= 5 && over_half >= 10);
+    let limited = &seen.limited;
+    assert!(limited.planned >= 20 && 3 * limited.accepted >= limited.planned);
+    assert!(limited.overfull[0] >= 10);
     assert!(kinds[1..].iter().all(|&times| times >= 10));
     assert!(seen.lists.issued[1..4].iter().all(|&times| times >= 1_000));
 }

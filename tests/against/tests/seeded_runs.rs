@@ -2,17 +2,17 @@
 //! cells and recipes that fit each other, and on every kind of damage to them.
 
 use against::damage::seeded_records;
-use against::pairs::{self, Pair};
+use against::pairs::{self, limits_leave_range, unlimited, Pair, NO_LIMITS};
 use against::random::Random;
 use against::rounds::{accepted, compare, Answers, Round, Table};
 use independent::{
-    cell_of_bytes, kind_of, letters_of, recipe_of_bytes, run_bytes, run_of_bytes, Cell, Recipe,
-    Run, Sizes, CARRY, MOST_POSITIONS, RUN_BYTES, TRANSFER,
+    cell_of_bytes, is_open, is_overfull, kind_of, letters_of, recipe_of_bytes, run_bytes,
+    run_of_bytes, Cell, Recipe, Run, Sizes, CARRY, MOST_POSITIONS, NO_LIMIT, RUN_BYTES, TRANSFER,
 };
 use std::ops::RangeInclusive;
 
 /// Pairs of a cell and a recipe, and rounds of calls on each.
-const PAIRS: usize = 4_000;
+const PAIRS: usize = 5_000;
 const ROUNDS: usize = 80;
 
 /// How many calls are made at least, and how often everything that must be seen is seen at least.
@@ -27,7 +27,15 @@ const TEST: u8 = 2;
 struct Seen {
     calls: usize,
     /// For check, next-move, report and place, how often each refusal came.
-    refusals: [[usize; 20]; 4],
+    refusals: [[usize; 21]; 4],
+    /// Refusals 4 for a limit alone.
+    limits_past_range: usize,
+    /// Moves that only the limits shut, by their kind: without a station overfull before, and with one.
+    shut: [[usize; 5]; 2],
+    /// Accepted next-moves with a station overfull before, by their kind.
+    mending: [usize; 5],
+    /// Accepted next-moves that leave a station just full, by their kind.
+    just_fitting: [usize; 5],
     /// Accepted next-moves of each kind.
     moves: [usize; 5],
     /// Accepted reports of the kinds 1 to 3, and those of kind 4, all of which get 19.
@@ -44,7 +52,7 @@ struct Seen {
 
 impl Seen {
     /// Notes what a round's calls answered.
-    fn note(&mut self, round: &Round, answers: &Answers) {
+    fn note(&mut self, round: &Round, table: &Table, answers: &Answers) {
         let Answers {
             check,
             next_move,
@@ -56,12 +64,42 @@ impl Seen {
             self.calls += 1;
             times[refusal as usize] += 1;
         }
+        self.note_limits(round, table, answers);
         let entry = next_move as u32;
         if entry != 0 {
             self.moves[kind_of(entry) as usize] += 1;
             if report == 0 || report == 19 {
                 self.note_report(round, entry);
             }
+        }
+    }
+
+    /// Notes what the limits of a cell, if it has any, have to do with the answers.
+    fn note_limits(&mut self, round: &Round, table: &Table, answers: &Answers) {
+        let cell = cell_of_bytes(&round.cell);
+        if cell.limits == NO_LIMITS {
+            return;
+        }
+        self.limits_past_range += usize::from(limits_leave_range(&cell));
+        if let Some(position) = round.position() {
+            let entry = table.entries()[position as usize];
+            self.note_limited_move(&cell, round, entry, answers);
+        }
+    }
+
+    fn note_limited_move(&mut self, cell: &Cell, round: &Round, entry: u32, answers: &Answers) {
+        let (recipe, run) = (recipe_of_bytes(&round.recipe), run_of_bytes(&round.run));
+        let overfull = is_overfull(cell, &run.configuration);
+        let open = |cell| is_open(cell, &recipe, run.point, &run.configuration, entry);
+        let kind = kind_of(entry) as usize;
+        match answers.next_move >> 32 {
+            0 if overfull => self.mending[kind] += 1,
+            0 => {
+                let just_fits = !open(&tighter(cell));
+                self.just_fitting[kind] += usize::from(just_fits);
+            }
+            18 if open(&unlimited(cell)) => self.shut[usize::from(overfull)][kind] += 1,
+            _ => {}
         }
     }
 
@@ -105,10 +143,10 @@ impl Seen {
     fn judge(&self) {
         println!("{} calls", self.calls);
         assert!(self.calls >= LEAST_CALLS);
-        self.judge_refusals("check", 0, &[3..=13]);
-        self.judge_refusals("next-move", 1, &[3..=14, 16..=16, 18..=18]);
-        self.judge_refusals("report", 2, &[3..=14, 16..=19]);
-        self.judge_refusals("place", 3, &[3..=13, 16..=16]);
+        self.judge_refusals("check", 0, &[3..=13, 20..=20]);
+        self.judge_refusals("next-move", 1, &[3..=14, 16..=16, 18..=18, 20..=20]);
+        self.judge_refusals("report", 2, &[3..=14, 16..=20]);
+        self.judge_refusals("place", 3, &[3..=13, 16..=16, 20..=20]);
         for (name, seen) in [
             ("next-moves of kind 1 to 4", &self.moves[1..]),
             ("reports of kind 1 to 4", &self.reports[1..]),
@@ -118,6 +156,19 @@ impl Seen {
             (
                 "dos that give what they take, here and there",
                 &self.exchanged,
+            ),
+            ("refusals 4 for a limit alone", &[self.limits_past_range]),
+            // Internal work moves no part, so that it neither fills a station nor mends one.
+            (
+                "transfers and carries that limits shut",
+                &self.shut[0][2..4],
+            ),
+            ("moves that an overfull station shuts", &self.shut[1][1..4]),
+            ("transfers and carries that mend one", &self.mending[2..4]),
+            ("ends with an overfull station", &self.mending[4..]),
+            (
+                "transfers and carries that just fit",
+                &self.just_fitting[2..4],
             ),
         ] {
             println!("{name}: {seen:?}");
@@ -139,15 +190,27 @@ impl Seen {
     }
 }
 
+/// The cell with room for one part less at each station with a limit.
+fn tighter(cell: &Cell) -> Cell {
+    let less = |most| if most == NO_LIMIT { most } else { most - 1 };
+    Cell {
+        limits: cell.limits.map(less),
+        ..cell.clone()
+    }
+}
+
 /// A run for accepted records, with the entry to try there.
 fn seeded_run((cell, recipe, sizes): &(Cell, Recipe, Sizes), random: &mut Random) -> (Run, u32) {
-    // Not every try finds lines for its kind of move.
-    let tries = (0..4).find_map(|_| {
-        let kind = random.choose(&[1, 2, 2, 3, 3, 3, 3, 4]);
-        pairs::run_with_move(cell, recipe, sizes, kind, random)
+    // Not every try finds lines for its kind of move, or a run without an overfull station, which is
+    // wanted once in three times.
+    let any_places = random.below(3) > 0;
+    let tries = (0..8).find_map(|_| {
+        let kind = random.choose(&[1, 2, 2, 2, 3, 3, 3, 3, 4]);
+        let found = pairs::run_with_move(cell, recipe, sizes, kind, random);
+        found.filter(|(run, _)| any_places || !is_overfull(cell, &run.configuration))
     });
     let (mut run, mut entry) = tries.unwrap_or_else(|| (pairs::any_run(sizes, random), 0));
-    match random.below(12) {
+    match random.below(16) {
         0..=2 => entry = pairs::other_entry(entry, cell, random),
         3 | 4 => pairs::other_configuration(&mut run, sizes, random),
         5 => {
@@ -156,6 +219,7 @@ fn seeded_run((cell, recipe, sizes): &(Cell, Recipe, Sizes), random: &mut Random
             entry = elsewhere.map_or(entry, |(_, other)| other);
         }
         6 => run = pairs::any_run(sizes, random),
+        7..=11 => pairs::crowd(&mut run, entry, cell, recipe, random),
         _ => {}
     }
     (run, entry)
@@ -265,7 +329,7 @@ fn seeded_calls() {
         let mut greatest = 0;
         for _ in 0..ROUNDS {
             let round = seeded_round(&pair, &mut table, &mut random);
-            seen.note(&round, &compare(&round, &table));
+            seen.note(&round, &table, &compare(&round, &table));
             greatest = greatest.max(round.entries);
         }
         table.assert_unchanged(greatest);

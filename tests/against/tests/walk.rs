@@ -7,7 +7,7 @@
 
 use against::generate::{self, Generate, Rows};
 use against::random::Random;
-use against::{CellFile, Format, RecipeFile};
+use against::{CellFile, Columns, RecipeFile};
 use independent::{cell_bytes, likely_pair, recipe_bytes};
 use std::fmt::{Display, Formatter, Result};
 use std::fs::{self, File};

@@ -4,6 +4,7 @@
 
 use crate::cell::Cell;
 use crate::entry::{is_open, kind_of, letters_of, CARRY, TRANSFER};
+use crate::limits::is_overfull;
 use crate::recipe::{Recipe, DO, END, TEST};
 use crate::run::{NextMove, Report, Run};
 use crate::sizes::{Configuration, Sizes, MOST_PARTS};
@@ -48,6 +49,12 @@ impl<'a> Book<'a> {
     /// The count q of silent moves since the last carry.
     pub fn silent_moves(&self) -> u64 {
         self.silent
+    }
+
+    /// Whether some station is overfull in the book's configuration. From a position with an entry other
+    /// than 0 of a planned table, that is never so.
+    pub fn is_overfull(&self) -> bool {
+        is_overfull(self.cell, &self.configuration)
     }
 
     /// The point and the configuration that the book keeps.
@@ -180,7 +187,7 @@ impl<'a> Book<'a> {
 #[cfg(test)]
 mod tests {
     use super::*;
-    use crate::fixtures::{bench, bench_table, lane, some_table};
+    use crate::fixtures::{bench, bench_table, lane, limited, some_table};
     use crate::random::Random;
 
     /// Feeds a list of calls to the run and to the book and compares every answer. Gives how many
@@ -218,7 +225,9 @@ mod tests {
     fn the_run_answers_as_the_book_does() {
         let mut random = Random(11);
         let mut issued = [0; 5];
-        for example in [bench(), lane()] {
+        let (cell, recipe) = lane();
+        let narrow = (limited(cell, &[2, 1, 1]), recipe);
+        for example in [bench(), lane(), narrow] {
             let positions = Sizes::of(&example.0, &example.1).positions;
             for _ in 0..5 {
                 let table = some_table(&example.0, &example.1, &mut random);

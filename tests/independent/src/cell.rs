@@ -1,23 +1,37 @@
-//! The cell file: the lines of each resource's state diagram.
+//! The cell file: the lines of each resource's state diagram. Its record also has the most parts that
+//! each resource may hold, which another file gives.
 
-use crate::table::{read_columns, try_count, try_lines, Columns, Reading, Refusal, MOST_LINES};
+use crate::sizes::{MOST_PARTS, MOST_RESOURCES};
+use crate::table::{
+    leaves_range, read_columns, try_count, try_lines, Columns, Reading, Refusal, MOST_LINES,
+};
+use std::ops::RangeInclusive;
 
 /// The names line with its byte 10.
 pub const CELL_NAMES: &[u8] = b"resource,from,act,arg,to\n";
 
 /// The length of a cell record in bytes.
-pub const CELL_BYTES: usize = 1 + 5 * MOST_LINES;
+pub const CELL_BYTES: usize = LIMITS_AT + MOST_RESOURCES;
 
-/// The top of each column's range.
-const GREATEST: [u8; 5] = [5, 7, 3, 63, 7];
+/// Where the limits begin in the bytes of a cell record.
+const LIMITS_AT: usize = 1 + 5 * MOST_LINES;
+
+/// Each column's range.
+const RANGES: [RangeInclusive<u8>; 5] = [0..=5, 0..=7, 0..=3, 0..=63, 0..=7];
+
+/// The range of a limit.
+pub(crate) const LIMIT_RANGE: RangeInclusive<u8> = 1..=NO_LIMIT;
+
+/// The limit of a resource to which none was given. There are no more parts than this.
+pub const NO_LIMIT: u8 = MOST_PARTS as u8;
 
 pub(crate) const INTERNAL: u8 = 0;
 pub(crate) const OPERATION: u8 = 1;
 pub(crate) const IN: u8 = 2;
 pub(crate) const OUT: u8 = 3;
 
-/// The value lines of a cell file, an array for each column. What stands past `count` lines counts
-/// for nothing.
+/// The value lines of a cell file, an array for each column, and the most parts that each resource may
+/// hold. What stands past `count` lines counts for nothing.
 #[derive(Clone, Debug, PartialEq, Eq)]
 pub struct Cell {
     pub count: u8,
@@ -26,13 +40,14 @@ pub struct Cell {
     pub act: [u8; MOST_LINES],
     pub arg: [u8; MOST_LINES],
     pub to: [u8; MOST_LINES],
+    pub limits: [u8; MOST_RESOURCES],
 }
 
 /// The answer of `read_cell`.
 pub type CellReading = Reading<Cell>;
 
 impl Cell {
-    /// The record of no lines.
+    /// The record of no lines and without limits.
     pub const EMPTY: Cell = Cell {
         count: 0,
         resource: [0; MOST_LINES],
@@ -40,6 +55,7 @@ impl Cell {
         act: [0; MOST_LINES],
         arg: [0; MOST_LINES],
         to: [0; MOST_LINES],
+        limits: [NO_LIMIT; MOST_RESOURCES],
     };
 
     /// Line `n` in the order of the columns.
@@ -51,6 +67,12 @@ impl Cell {
             self.arg[n],
             self.to[n],
         ]
+    }
+
+    /// R, the greatest resource number plus 1, of a cell with lines.
+    pub(crate) fn resources(&self) -> usize {
+        let resources = &self.resource[..usize::from(self.count)];
+        usize::from(resources.iter().copied().max().unwrap_or(0)) + 1
     }
 }
 
@@ -69,7 +91,7 @@ pub fn read_cell(file: &[u8]) -> CellReading {
 }
 
 fn read(file: &[u8]) -> Result<Cell, Refusal> {
-    let Columns { count, columns } = read_columns(file, CELL_NAMES, GREATEST)?;
+    let Columns { count, columns } = read_columns(file, CELL_NAMES, &RANGES)?;
     let [resource, from, act, arg, to] = columns;
     let cell = Cell {
         count,
@@ -78,12 +100,13 @@ fn read(file: &[u8]) -> Result<Cell, Refusal> {
         act,
         arg,
         to,
+        limits: Cell::EMPTY.limits,
     };
     try_stations(&cell)?;
     Ok(cell)
 }
 
-/// The first of the rules 3 to 6 that a record breaks.
+/// The first of the rules 3 to 6 and 20 that a record breaks.
 pub fn check_cell(cell: &Cell) -> Refusal {
     check(cell).err().unwrap_or(Refusal::NONE)
 }
@@ -91,18 +114,24 @@ pub fn check_cell(cell: &Cell) -> Refusal {
 fn check(cell: &Cell) -> Result<(), Refusal> {
     let count = usize::from(cell.count);
     try_count(count)?;
-    try_lines(4, count, |n| {
-        cell.line(n).iter().zip(GREATEST).any(|(&x, most)| x > most)
-    })?;
-    try_stations(cell)
+    try_lines(4, count, |n| leaves_range(&cell.line(n), &RANGES))?;
+    if leaves_range(&cell.limits, &[LIMIT_RANGE; MOST_RESOURCES]) {
+        return Err(Refusal::of_whole(4));
+    }
+    try_stations(cell)?;
+    // No resource above the greatest is there to have a limit.
+    let not_there = &cell.limits[cell.resources()..];
+    if not_there.iter().any(|&most| most != NO_LIMIT) {
+        return Err(Refusal::of_whole(20));
+    }
+    Ok(())
 }
 
 /// Rules 5 and 6, for a record that passes the rules 3 and 4.
 fn try_stations(cell: &Cell) -> Result<(), Refusal> {
     let count = usize::from(cell.count);
-    let resources = &cell.resource[..count];
-    let greatest = resources.iter().copied().max().unwrap_or(0);
-    if (0..greatest).any(|resource| !resources.contains(&resource)) {
+    let has_a_line = |k: usize| cell.resource[..count].contains(&(k as u8));
+    if !(0..cell.resources()).all(has_a_line) {
         return Err(Refusal::of_whole(5));
     }
 
@@ -129,29 +158,31 @@ fn try_stations(cell: &Cell) -> Result<(), Refusal> {
     })
 }
 
-/// The record as bytes: the line count, then 64 times `resource, from, act, arg, to`.
+/// The record as bytes: the line count, then 64 times `resource, from, act, arg, to`, then the limits.
 pub fn cell_bytes(cell: &Cell) -> [u8; CELL_BYTES] {
     let mut bytes = [0; CELL_BYTES];
     bytes[0] = cell.count;
-    for (n, line) in bytes[1..].chunks_exact_mut(5).enumerate() {
+    for (n, line) in bytes[1..LIMITS_AT].chunks_exact_mut(5).enumerate() {
         line.copy_from_slice(&cell.line(n));
     }
+    bytes[LIMITS_AT..].copy_from_slice(&cell.limits);
     bytes
 }
 
 /// The record that the bytes say. Those past its end count for nothing, and too few bytes are a
-/// record of no lines.
+/// record of no lines and without limits.
 pub fn cell_of_bytes(bytes: &[u8]) -> Cell {
     let mut cell = Cell::EMPTY;
     if let Some(bytes) = bytes.get(..CELL_BYTES) {
         cell.count = bytes[0];
-        for (n, line) in bytes[1..].chunks_exact(5).enumerate() {
+        for (n, line) in bytes[1..LIMITS_AT].chunks_exact(5).enumerate() {
             cell.resource[n] = line[0];
             cell.from[n] = line[1];
             cell.act[n] = line[2];
             cell.arg[n] = line[3];
             cell.to[n] = line[4];
         }
+        cell.limits.copy_from_slice(&bytes[LIMITS_AT..]);
     }
     cell
 }
@@ -198,18 +229,22 @@ mod tests {
     }
 
     #[test]
-    fn bytes_are_the_count_and_then_line_after_line() {
+    fn bytes_are_the_count_then_line_after_line_and_the_limits_last() {
         let bytes = cell_bytes(&bench_record());
         assert_eq!(bytes[..11], [5, 0, 0, 1, 1, 1, 0, 1, 3, 5, 0]);
         assert_eq!(bytes[21..27], [1, 2, 1, 3, 0, 0]);
-        assert!(bytes[26..].iter().all(|&byte| byte == 0));
-        assert_eq!(cell_bytes(&Cell::EMPTY), [0; CELL_BYTES]);
+        assert!(bytes[26..321].iter().all(|&byte| byte == 0));
+        assert_eq!(bytes[321..], [8; 6]);
+        let no_lines = cell_bytes(&Cell::EMPTY);
+        assert!(no_lines[..321].iter().all(|&byte| byte == 0));
+        assert_eq!(no_lines[321..], [8; 6]);
     }
 
     #[test]
     fn bytes_are_read_back_unless_they_are_too_few() {
         let mut cell = bench_record();
         cell.to[63] = 200;
+        cell.limits = [0, 1, 8, 9, 255, 3];
         let mut bytes = cell_bytes(&cell).to_vec();
         assert_eq!(cell_of_bytes(&bytes), cell);
         bytes.extend_from_slice(&[9; 4]);
@@ -338,5 +373,54 @@ mod tests {
         assert_eq!(check_cell(&cell), Refusal { number: 6, line: 3 });
         cell.resource[1] = 2;
         assert_eq!(check_cell(&cell), Refusal { number: 5, line: 0 });
+    }
+
+    #[test]
+    fn a_reader_gives_no_limits() {
+        assert_eq!(read_cell(&file(&BENCH)).record.limits, [8; 6]);
+        assert_eq!(read_cell(b"").record.limits, [8; 6]);
+    }
+
+    /// The refusal of the record of one resource with this limit at a resource.
+    fn refusal_with_limit(resource: usize, most: u8) -> (u8, usize) {
+        let mut cell = read_cell(&file(&["0,0,1,1,0"])).record;
+        cell.limits[resource] = most;
+        let Refusal { number, line } = check_cell(&cell);
+        (number, line)
+    }
+
+    #[test]
+    fn rule_4_wants_limits_from_1_to_8() {
+        for most in 1..=8 {
+            assert_eq!(refusal_with_limit(0, most), (0, 0));
+        }
+        for (resource, most) in [(0, 0), (0, 9), (0, 255), (5, 0), (5, 9), (1, 255)] {
+            assert_eq!(refusal_with_limit(resource, most), (4, 0));
+        }
+    }
+
+    #[test]
+    fn rule_20_wants_no_limit_at_a_resource_that_is_not_there() {
+        for most in 1..8 {
+            assert_eq!(refusal_with_limit(1, most), (20, 0));
+            assert_eq!(refusal_with_limit(5, most), (20, 0));
+        }
+        assert_eq!(refusal_with_limit(5, 8), (0, 0));
+    }
+
+    #[test]
+    fn limits_are_tried_after_the_lines_ranges_and_after_rule_6() {
+        let mut cell = bench_record();
+        let mut expect = |change: fn(&mut Cell), number, line| {
+            change(&mut cell);
+            assert_eq!(check_cell(&cell), Refusal { number, line });
+        };
+        // Each change breaks a rule before all those that were broken so far.
+        expect(|cell| cell.limits[2] = 7, 20, 0);
+        expect(|cell| cell.arg[2] = 6, 6, 3);
+        expect(|cell| cell.resource[4] = 3, 5, 0);
+        expect(|cell| cell.limits[0] = 9, 4, 0);
+        expect(|cell| cell.to[1] = 8, 4, 3);
+        expect(|cell| cell.count = 65, 3, 0);
     }
 }

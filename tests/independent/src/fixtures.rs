@@ -2,6 +2,7 @@
 
 use crate::cell::{read_cell, Cell, CELL_NAMES};
 use crate::entry::{entry_of, is_open, kind_of, makes, CARRY, INTERNAL, STAY, TRANSFER};
+use crate::generate::{likely_pair, limited_pair};
 use crate::plan::plan;
 use crate::random::Random;
 use crate::recipe::{read_recipe, Recipe, RECIPE_NAMES};
@@ -37,6 +38,12 @@ pub(crate) fn recipe_of(lines: &[&str]) -> Recipe {
     let reading = read_recipe(&file_of(RECIPE_NAMES, lines));
     assert_eq!(reading.refusal.number, 0, "{lines:?}");
     reading.record
+}
+
+/// The cell with these limits at its first resources.
+pub(crate) fn limited(mut cell: Cell, limits: &[u8]) -> Cell {
+    cell.limits[..limits.len()].copy_from_slice(limits);
+    cell
 }
 
 pub(crate) fn bench() -> (Cell, Recipe) {
@@ -99,6 +106,14 @@ pub(crate) fn lane() -> (Cell, Recipe) {
         "4,0,0,0,0,0,0",
     ]);
     (cell, recipe)
+}
+
+/// A seeded pair, with limits at every other number.
+pub(crate) fn either_pair(n: u64, most_positions: u64, random: &mut Random) -> (Cell, Recipe) {
+    match n % 2 {
+        0 => likely_pair(most_positions, random),
+        _ => limited_pair(most_positions, random),
+    }
 }
 
 /// A table with an open move at most positions that have one, and here and there some other entry.
@@ -171,7 +186,7 @@ pub(crate) fn open_moves(cell: &Cell, recipe: &Recipe, position: u64) -> Vec<u32
 }
 
 /// A table that is allowed, found slowly from the greatest simulation by joint steps. Each round looks
-/// at the positions without an entry; their carries into the simulation and their silent moves to
+/// at its positions without an entry; their carries into the simulation and their silent moves to
 /// positions with an entry are shown to `choose`, which picks one or puts the position off.
 pub(crate) fn slow_table(
     cell: &Cell,
@@ -184,7 +199,9 @@ pub(crate) fn slow_table(
     loop {
         let mut chosen = vec![];
         let mut waiting = false;
-        for position in (0..sizes.positions).filter(|&p| table[p as usize] == 0) {
+        // Elsewhere a move may lead on too, as it may mend an overfull station.
+        let without = |&p: &u64| greatest[p as usize] && table[p as usize] == 0;
+        for position in (0..sizes.positions).filter(without) {
             let mut moves = open_moves(cell, recipe, position);
             moves.retain(|&entry| {
                 let silent = [INTERNAL, TRANSFER].contains(&kind_of(entry));

@@ -1,6 +1,6 @@
 //! Cells and recipes that fit each other, many of which are realisable. A recipe is written along a
 //! walk through its cell, so that there is a way for it; then some pairs are damaged in a place or
-//! more.
+//! more. There are cells with limits and without.
 
 mod cell_lines;
 mod great;
@@ -8,55 +8,111 @@ mod walk;
 
 pub use great::{dense_pair, long_ways_pair, mixed_pair, odometer_pair};
 
-use crate::cell::{cell_of_bytes, Cell, CELL_BYTES};
+use crate::cell::{cell_bytes, cell_of_bytes, Cell, NO_LIMIT};
 use crate::random::Random;
 use crate::recipe::{recipe_of_bytes, Recipe, END, MOST_PARALLEL, RECIPE_BYTES};
 use crate::run::check;
-use crate::sizes::{Sizes, MOST_PARTS};
+use crate::sizes::{Sizes, MOST_PARTS, MOST_RESOURCES};
 use crate::table::MOST_LINES;
 
 /// A value line of a cell, and one of a recipe.
 type CellLine = [u8; 5];
 type RecipeLine = [u8; 7];
 
+/// The most parts that each resource may hold.
+type Limits = [u8; MOST_RESOURCES];
+
+const NO_LIMITS: Limits = [NO_LIMIT; MOST_RESOURCES];
+
 const END_LINE: RecipeLine = [0, END, 0, 0, 0, 0, 0];
 
 /// How often a cell is thrown away in which the walk finds nothing to do.
 const MOST_TRIES: usize = 4;
 
-/// A cell and a recipe of at most this many positions, 50 or more, that pass the rules before 14.
+/// A cell without limits and a recipe, of at most this many positions, 50 or more, that pass the rules
+/// before 14.
 pub fn likely_pair(most_positions: u64, random: &mut Random) -> (Cell, Recipe) {
-    let (cell_lines, recipe_lines) = likely_lines(most_positions, random);
-    let tries = random.choose(&[0, 8]);
-    for _ in 0..tries {
-        let damaged = damaged_pair(cell_lines.clone(), recipe_lines.clone(), random);
-        let fits = || Sizes::of(&damaged.0, &damaged.1).positions <= most_positions;
-        if check(&damaged.0, &damaged.1) == 0 && fits() {
-            return damaged;
-        }
-    }
-    (cell_of_lines(&cell_lines), recipe_of_lines(&recipe_lines))
+    pair(most_positions, false, random)
 }
 
-/// The lines of a cell and of a recipe for which there is a way, unless its points were too few.
-fn likely_lines(most_positions: u64, random: &mut Random) -> (Vec<CellLine>, Vec<RecipeLine>) {
+/// The same with limits at some of the stations, most of which leave too little room for all parts.
+pub fn limited_pair(most_positions: u64, random: &mut Random) -> (Cell, Recipe) {
+    pair(most_positions, true, random)
+}
+
+fn pair(most_positions: u64, limited: bool, random: &mut Random) -> (Cell, Recipe) {
+    let likely = likely_lines(most_positions, limited, random);
+    let tries = random.choose(&[0, 8]);
+    for _ in 0..tries {
+        let (cell, recipe) = damaged_pair(likely.clone(), limited, random);
+        let fits = || Sizes::of(&cell, &recipe).positions <= most_positions;
+        if check(&cell, &recipe) == 0 && fits() {
+            return (cell, recipe);
+        }
+    }
+    (
+        limited_cell(&likely.cell, likely.limits),
+        recipe_of_lines(&likely.recipe),
+    )
+}
+
+/// The value lines of a cell, its limits, and the value lines of a recipe.
+#[derive(Clone)]
+struct Lines {
+    cell: Vec<CellLine>,
+    limits: Limits,
+    recipe: Vec<RecipeLine>,
+}
+
+/// The lines of a cell and of a recipe for which there is a way, unless its points were too few or the
+/// limits were not looked at.
+fn likely_lines(most_positions: u64, limited: bool, random: &mut Random) -> Lines {
     let only_ends = random.below(40);
     let mut tries = 0;
     loop {
-        let shape = Shape::new(most_positions, random);
-        let cell_lines = cell_lines::cell_lines(&shape, random);
-        let recipe_lines = match only_ends {
+        let shape = likely_shape(most_positions, limited, random);
+        let cell = cell_lines::cell_lines(&shape, random);
+        let limits = match limited {
+            true => some_limits(shape.states.len(), random),
+            false => NO_LIMITS,
+        };
+        let looked_at = match limited && random.once_in(3) {
+            true => NO_LIMITS,
+            false => limits,
+        };
+        let recipe = match only_ends {
             0 => vec![END_LINE],
             1 => (0..shape.points as u8)
                 .map(|point| numbered(END_LINE, point))
                 .collect(),
-            _ => walk::recipe_lines(&cell_of_lines(&cell_lines), &shape, random),
+            _ => walk::recipe_lines(&limited_cell(&cell, looked_at), &shape, random),
         };
         tries += 1;
-        if recipe_lines.len() > 1 || only_ends < 2 || tries == MOST_TRIES {
-            return (cell_lines, recipe_lines);
+        if recipe.len() > 1 || only_ends < 2 || tries == MOST_TRIES {
+            return Lines {
+                cell,
+                limits,
+                recipe,
+            };
         }
     }
+}
+
+/// A shape, with limits one of several parts, as one alone fills no station past its limit.
+fn likely_shape(most_positions: u64, limited: bool, random: &mut Random) -> Shape {
+    loop {
+        let shape = Shape::new(most_positions, random);
+        if !limited || shape.parts > 1 {
+            return shape;
+        }
+    }
+}
+
+/// Limits for so many resources, most of them small.
+fn some_limits(resources: usize, random: &mut Random) -> Limits {
+    let mut limits = NO_LIMITS;
+    limits[..resources].fill_with(|| random.choose(&[1, 1, 2, 2, 3, 4, NO_LIMIT]));
+    limits
 }
 
 /// How great a pair may become.
@@ -132,15 +188,21 @@ impl Shape {
     }
 }
 
-/// The pair with up to three lines changed or left out.
-fn damaged_pair(
-    mut cell: Vec<CellLine>,
-    mut recipe: Vec<RecipeLine>,
-    random: &mut Random,
-) -> (Cell, Recipe) {
+/// The pair with up to three lines changed or left out, or limits lowered.
+fn damaged_pair(lines: Lines, limited: bool, random: &mut Random) -> (Cell, Recipe) {
+    let Lines {
+        mut cell,
+        mut limits,
+        mut recipe,
+    } = lines;
     for _ in 0..1 + random.below(3) {
         let cell_line = random.below(cell.len());
         let recipe_line = random.below(recipe.len());
+        if limited && random.once_in(2) {
+            let most = &mut limits[usize::from(cell[cell_line][0])];
+            *most = 1 + random.below(usize::from(*most).min(4)) as u8;
+            continue;
+        }
         let field = random.below(7);
         match field {
             0 if cell.len() > 1 => _ = cell.remove(cell_line),
@@ -151,7 +213,7 @@ fn damaged_pair(
             _ => recipe[recipe_line][field] = random.below(recipe.len()) as u8,
         }
     }
-    (cell_of_lines(&cell), recipe_of_lines(&recipe))
+    (limited_cell(&cell, limits), recipe_of_lines(&recipe))
 }
 
 /// A recipe line with another point.
@@ -160,8 +222,15 @@ fn numbered(mut line: RecipeLine, point: u8) -> RecipeLine {
     line
 }
 
+fn limited_cell(lines: &[CellLine], limits: Limits) -> Cell {
+    Cell {
+        limits,
+        ..cell_of_lines(lines)
+    }
+}
+
 fn cell_of_lines(lines: &[CellLine]) -> Cell {
-    let mut bytes = [0; CELL_BYTES];
+    let mut bytes = cell_bytes(&Cell::EMPTY);
     bytes[0] = lines.len() as u8;
     for (at, line) in bytes[1..].chunks_exact_mut(5).zip(lines) {
         at.copy_from_slice(line);
@@ -182,7 +251,8 @@ fn recipe_of_lines(lines: &[RecipeLine]) -> Recipe {
 mod tests {
     use super::*;
     use crate::entry::{kind_of, makes, TRANSFER};
-    use crate::fixtures::planned;
+    use crate::fixtures::{limited, planned};
+    use crate::limits::is_overfull;
     use crate::recipe::TEST;
     use crate::run::Run;
 
@@ -303,11 +373,61 @@ mod tests {
         }
     }
 
+    /// How often limits matter among limited pairs.
+    #[derive(Debug, Default)]
+    struct Limited {
+        realisable: usize,
+        /// Some position has an overfull station.
+        overfull: usize,
+        /// Not realisable, but without limits.
+        lost: usize,
+        /// Realisable, but some position without an overfull station is lost to the limits.
+        narrowed: usize,
+    }
+
+    impl Limited {
+        fn add(&mut self, cell: &Cell, recipe: &Recipe) {
+            let sizes = Sizes::of(cell, recipe);
+            let unlimited = limited(cell.clone(), &NO_LIMITS);
+            let (refusal, table) = planned(cell, recipe);
+            let (unlimited_refusal, unlimited_table) = planned(&unlimited, recipe);
+            let overfull = |p: usize| is_overfull(cell, &sizes.at(p as u64).1);
+            let lost = |p: usize| !overfull(p) && table[p] == 0 && unlimited_table[p] != 0;
+            self.realisable += usize::from(refusal == 0);
+            self.overfull += usize::from((0..table.len()).any(overfull));
+            self.lost += usize::from(refusal != 0 && unlimited_refusal == 0);
+            self.narrowed += usize::from(refusal == 0 && (0..table.len()).any(lost));
+        }
+    }
+
+    #[test]
+    fn limited_pairs_are_realisable_or_not_for_their_limits() {
+        let mut random = Random(33);
+        let mut counts = Limited::default();
+        let pairs = 2000;
+        for _ in 0..pairs {
+            let (cell, recipe) = limited_pair(400, &mut random);
+            assert_eq!(check(&cell, &recipe), 0);
+            assert!(Sizes::of(&cell, &recipe).positions <= 400);
+            counts.add(&cell, &recipe);
+        }
+        let Limited {
+            realisable,
+            overfull,
+            lost,
+            narrowed,
+        } = counts;
+        assert!(3 * realisable > pairs && 2 * overfull > pairs);
+        assert!(20 * lost > pairs && 20 * narrowed > pairs, "{counts:?}");
+    }
+
     #[test]
     fn the_same_seed_gives_the_same_pairs() {
         for seed in 0..50 {
-            let pair = likely_pair(1000, &mut Random(seed));
-            assert_eq!(pair, likely_pair(1000, &mut Random(seed)));
+            for pair in [likely_pair, limited_pair] {
+                let first = pair(1000, &mut Random(seed));
+                assert_eq!(first, pair(1000, &mut Random(seed)));
+            }
         }
     }
 }

@@ -1,7 +1,7 @@
-//! An independent program for the cell and recipe files, the planner, the run over a stored table, the
-//! book that the run is held against and the program `walk`, written from their description alone; with
-//! a judge of planned tables and a generator of cells and recipes. The tests compare the proved library
-//! and program with it, and the benchmark measures against it.
+//! An independent program for the cell, recipe and limits files, the planner, the run over a stored
+//! table, the book that the run is held against and the program `walk`, written from their description
+//! alone; with a judge of planned tables and a generator of cells and recipes. The tests compare the
+//! proved library and program with it, and the benchmark measures against it.
 
 mod book;
 mod cell;
@@ -10,6 +10,7 @@ mod entry;
 mod fixtures;
 mod generate;
 mod judge;
+mod limits;
 mod plan;
 mod random;
 mod recipe;
@@ -23,10 +24,14 @@ mod walk;
 pub use book::Book;
 pub use cell::{
     cell_bytes, cell_of_bytes, check_cell, read_cell, Cell, CellReading, CELL_BYTES, CELL_NAMES,
+    NO_LIMIT,
 };
 pub use entry::{entry_of, is_open, kind_of, letters_of, CARRY, INTERNAL, STAY, TRANSFER};
-pub use generate::{dense_pair, likely_pair, long_ways_pair, mixed_pair, odometer_pair};
+pub use generate::{
+    dense_pair, likely_pair, limited_pair, long_ways_pair, mixed_pair, odometer_pair,
+};
 pub use judge::{judge, Fault, FEW_JOINT_CHOICES};
+pub use limits::{is_overfull, read_limits, LIMITS_NAMES};
 pub use plan::plan;
 pub use random::Random;
 pub use recipe::{

@@ -55,8 +55,8 @@ impl Sizes {
             let count = &mut states[usize::from(cell.resource[n])];
             *count = u64::from(greatest + 1).max(*count);
         }
-        // Rule 5 has left no gap between the resources, and each has at least the state 0.
-        let resources = states.iter().take_while(|&&count| count > 0).count();
+        // Rule 5 has left no gap between the resources.
+        let resources = cell.resources();
         let joint_states = states[..resources].iter().product();
 
         let lines = 0..usize::from(recipe.count);

@@ -1,5 +1,7 @@
-//! What the two files have in common: a names line, then value lines of decimal numbers parted by
-//! commas, every line ended by byte 10.
+//! What the files have in common: a names line, then value lines of decimal numbers parted by commas,
+//! every line ended by byte 10.
+
+use std::ops::RangeInclusive;
 
 /// The most value lines that a file or a record may have.
 pub const MOST_LINES: usize = 64;
@@ -39,7 +41,8 @@ impl Refusal {
     }
 }
 
-/// A reader's answer. With a refusal comes a record of no lines, zero everywhere.
+/// A reader's answer. With a refusal comes a record of no lines; from the reader of limits comes the
+/// record that it was handed.
 #[derive(Clone, Debug, PartialEq, Eq)]
 pub struct Reading<Record> {
     pub refusal: Refusal,
@@ -67,18 +70,24 @@ pub(crate) fn try_count(count: usize) -> Result<(), Refusal> {
     }
 }
 
+/// Whether one of the numbers leaves its range.
+pub(crate) fn leaves_range(numbers: &[u8], ranges: &[RangeInclusive<u8>]) -> bool {
+    let mut both = numbers.iter().zip(ranges);
+    both.any(|(number, range)| !range.contains(number))
+}
+
 /// The numbers of a file that passes the rules 1 to 4, an array for each column.
 pub(crate) struct Columns<const K: usize> {
     pub count: u8,
     pub columns: [[u8; MOST_LINES]; K],
 }
 
-/// Reads a file of K columns by the rules 1 to 4. `names` includes the byte 10, and `greatest` has
-/// the top of each column's range.
+/// Reads a file of K columns by the rules 1 to 4. `names` includes the byte 10, and `ranges` has each
+/// column's range.
 pub(crate) fn read_columns<const K: usize>(
     file: &[u8],
     names: &[u8],
-    greatest: [u8; K],
+    ranges: &[RangeInclusive<u8>; K],
 ) -> Result<Columns<K>, Refusal> {
     let mut rest = file.strip_prefix(names).ok_or(Refusal::of_names(1))?;
     let mut columns = [[0; MOST_LINES]; K];
@@ -90,7 +99,7 @@ pub(crate) fn read_columns<const K: usize>(
         if lines < MOST_LINES {
             for k in 0..K {
                 match u8::try_from(numbers[k]) {
-                    Ok(number) if number <= greatest[k] => columns[k][lines] = number,
+                    Ok(number) if ranges[k].contains(&number) => columns[k][lines] = number,
                     _ => {
                         out_of_range.get_or_insert(lines);
                     }

@@ -36,6 +36,7 @@ const THEOREMS: &[Root] = &[Root::Theorems(
         "refused-breaks",
         "accepted-rules",
         "demand-3",
+        "never-overfull",
     ],
 )];
 
@@ -47,6 +48,7 @@ pub const GROUPS: &[Group] = &[
                 "crates/cell/src/lib.rt",
                 Calls::Named(&["read_cell", "check_cell"]),
             ),
+            Root::Contracts("crates/limits/src/lib.rt", Calls::Named(&["read_limits"])),
             Root::Contracts(
                 "crates/recipe/src/lib.rt",
                 Calls::Named(&["read_recipe", "check_recipe"]),

@@ -19,7 +19,7 @@ cast-result c = search needs
 returns : tie.Need-returns
 returns c =
     let start = c .before .before .before .before in
-    too-short _ _ 321 (start .args .buffer .now) (c .number .result) (c .before .if1 .taken) (c .number .ensures)
+    too-short _ _ 327 (start .args .buffer .now) (c .number .result) (c .before .if1 .taken) (c .number .ensures)
 
 read-cell-requires : tie.Need-read-cell-requires
 read-cell-requires c κs = search needs
@@ -46,11 +46,11 @@ returns-2 c =
     let at-read-cell = at-put-cell .before .before .before in
     let at-if1 = at-read-cell .before in
     let start = at-if1 .before .before .before in
-    answered _ _ 321 (start .args .buffer .now) (at-put-cell .put-cell .last .1 .0) (c .code .result)
+    answered _ _ 327 (start .args .buffer .now) (at-put-cell .put-cell .last .1 .0) (c .code .result)
     (at-if1 .if1 .left)
     (c .code .ensures ∙ ap (λ (r : CellReading). codeOf (r .verdict)) (at-read-cell .read-cell .ensures))
     (at-put-cell .put-cell .ensures
-    ∙ ap (λ (r : CellReading). cellBytes (r .cell) ++ drop 321 (start .args .buffer .now))
+    ∙ ap (λ (r : CellReading). cellBytes (r .cell) ++ drop 327 (start .args .buffer .now))
     (at-read-cell .read-cell .ensures))
 
 pub cellplan-read-cell-spec : {M : Type 1} → statement M

@@ -1,8 +1,8 @@
 use mathlib.Core.Path.{sym, _∙_}
-use Rattle.cell.specs.Rules.{cellRules, checkCell}
-use Rattle.cell.specs.Inner.{afterRange}
+use Rattle.cell.specs.Rules.{rule20, cellRules, checkCell}
+use Rattle.cell.specs.Inner.{ranges, afterRange, limitsVerdict}
 use Rattle.refusals.proofs.Verdicts.{count-in-range}
-use Rattle.refusals.proofs.Rules.{refuses, accepts}
+use Rattle.refusals.proofs.Rules.{refuses, accepts, decides, part-refuses, part-accepts}
 use borrow.Author.Needs.{needs}
 use Rattle.cell.proofs.check_cell.Statement.{statement}
 use Rattle.cell.proofs.check_cell.Tie as tie
@@ -17,7 +17,7 @@ enum-told-2 : tie.Need-enum-told-2
 enum-told-2 c = search needs
 
 returns : tie.Need-returns
-unfolding checkCell cellRules afterRange
+unfolding checkCell cellRules ranges afterRange
 returns c = refuses _ (c .before .before .check-count .ensures) (c .enum-told2 .given .1)
 
 check-ranges-requires : tie.Need-check-ranges-requires
@@ -30,25 +30,50 @@ enum-told-4 : tie.Need-enum-told-4
 enum-told-4 c = search needs
 
 returns-2 : tie.Need-returns-2
-unfolding checkCell cellRules afterRange
+unfolding checkCell cellRules ranges afterRange
 returns-2 c =
-    accepts _ (c .before .before .before .before .before .check-count .ensures)
-    (c .before .before .before .enum-told .given .1)
-    (refuses _ (c .before .before .check-ranges .ensures) (c .enum-told4 .given .1))
+    let counted = c .before .before .before in
+    let cell = counted .before .before .before .args .cell in
+    accepts _ (counted .before .before .check-count .ensures) (counted .enum-told .given .1)
+    (part-refuses (ranges cell) _ (c .before .before .check-ranges .ensures) (c .enum-told4 .given .1))
 
 check-ports-requires : tie.Need-check-ports-requires
 check-ports-requires c κs =
-    count-in-range _
-    (sym (c .before .before .before .before .before .check-count .ensures)
-    ∙ c .before .before .before .enum-told .given .1) .most
+    let counted = c .before .before .before in
+    count-in-range _ (sym (counted .before .before .check-count .ensures) ∙ counted .enum-told .given .1) .most
+
+enum-told-5 : tie.Need-enum-told-5
+enum-told-5 c = search needs
+
+enum-told-6 : tie.Need-enum-told-6
+enum-told-6 c = search needs
 
 returns-3 : tie.Need-returns-3
-unfolding checkCell cellRules afterRange
+unfolding checkCell cellRules ranges afterRange
 returns-3 c =
-    accepts _ (c .before .before .before .before .before .before .check-count .ensures)
-    (c .before .before .before .before .enum-told .given .1)
-    (accepts _ (c .before .before .before .check-ranges .ensures) (c .before .enum-told3 .given .1)
-    (c .check-ports .ensures))
+    let ranged = c .before .before .before in
+    let counted = ranged .before .before .before in
+    let cell = counted .before .before .before .args .cell in
+    accepts _ (counted .before .before .check-count .ensures) (counted .enum-told .given .1)
+    (part-accepts (ranges cell) _ (ranged .before .before .check-ranges .ensures) (ranged .enum-told3 .given .1)
+    (part-refuses (afterRange cell) _ (c .before .before .check-ports .ensures) (c .enum-told6 .given .1)))
+
+check-limits-requires : tie.Need-check-limits-requires
+check-limits-requires c κs =
+    let counted = c .before .before .before .before .before .before .before .before .before .before in
+    count-in-range _ (sym (counted .before .before .check-count .ensures) ∙ counted .enum-told .given .1) .most
+
+returns-4 : tie.Need-returns-4
+unfolding checkCell cellRules ranges afterRange limitsVerdict rule20
+returns-4 c =
+    let paired = c .before .before .before .before .before in
+    let ranged = paired .before .before .before in
+    let counted = ranged .before .before .before in
+    let cell = counted .before .before .before .args .cell in
+    accepts _ (counted .before .before .check-count .ensures) (counted .enum-told .given .1)
+    (part-accepts (ranges cell) _ (ranged .before .before .check-ranges .ensures) (ranged .enum-told3 .given .1)
+    (part-accepts (afterRange cell) _ (paired .before .before .check-ports .ensures) (paired .enum-told5 .given .1)
+    (decides (c .check-limits .ensures))))
 
 pub check-cell-spec : {M : Type 1} → statement M
 check-cell-spec =
@@ -63,4 +88,8 @@ check-cell-spec =
     enum-told-4
     returns-2
     check-ports-requires
-    returns-3)
+    enum-told-5
+    enum-told-6
+    returns-3
+    check-limits-requires
+    returns-4)

@@ -1,10 +1,12 @@
-use mathlib.Core.Path.{_≡_, sym, _∙_}
+use mathlib.Core.Path.{_≡_, refl, sym, ap, _∙_}
+use Rattle.refusals.specs.declared.Verdict.{Verdict}
 use Rattle.refusals.specs.declared.Verdict.the-variants.{Accepted}
 use Rattle.refusals.specs.Verdict.{firstRefusal, rule3, ifAccepted}
 use Rattle.refusals.proofs.Verdicts.{count-in-range}
 use Rattle.cell.specs.Rules.{cellRules, checkCell}
 use Rattle.cell.specs.Reader.{cellOf}
 use Rattle.cell.specs.Inner.{reading, afterRange}
+use Rattle.cell.proofs.StationLimits.{eights-pass}
 use borrow.Author.Needs.{needs}
 use Rattle.cell.proofs.reader.read_lines.Statement.{statement}
 use Rattle.cell.proofs.reader.read_lines.Tie as tie
@@ -27,10 +29,12 @@ refused-requires : tie.Need-refused-requires
 refused-requires c κs = search needs
 
 returns : tie.Need-returns
-unfolding firstRefusal checkCell cellRules afterRange cellOf
+unfolding cellOf
 returns c =
+    let n = c .before .before .before .before .before .args .count in
+    let counted : rule3 n ≡ Accepted = sym (c .before .before .before .check-count .ensures) ∙ c .before .enum-told .given .1 in
     λ f all kept. c .store-lines .ensures f all kept
-    ∙ rw (← all, sym (c .before .before .before .check-count .ensures) ∙ c .before .enum-told .given .1)
+    ∙ ap (λ (v : Verdict). reading v (cellOf f)) (eights-pass (cellOf f) refl (rw all at counted))
 
 returns-2 : tie.Need-returns-2
 unfolding firstRefusal checkCell cellRules afterRange cellOf reading ifAccepted
