@@ -50,14 +50,19 @@ module _ (limits : List ℕ) (k : ℕ) where
         never true = refl
         never false = refl
 
--- where no limit is other than 8, none is at or above any R
-pub none-absent : (limits : List ℕ) (R : ℕ) → anyBelow (limitsAbsent limits 0) 6 ≡ false → anyBelow (limitsAbsent limits R) 6 ≡ false
-none-absent limits R none = any-none (limitsAbsent limits R) 6 (λ k low. decide k low (ℕ-discrete (getD limits k 0) 8))
-  where
-    decide : (k : ℕ) → k < 6 → Dec (getD limits k 0 ≡ 8) → limitsAbsent limits R k ≡ false
-    decide k low (yes e) = limit-eight limits k R e
-    decide k low (no other) =
-        absurd (true≢false (sym (limit-other limits k 0 (omega arith) other) ∙ any-not (limitsAbsent limits 0) 6 k none low))
+-- no limit is other than 8
+module _ (limits : List ℕ) (none : anyBelow (limitsAbsent limits 0) 6 ≡ false) where
+  pub all-eight : (k : ℕ) → k < 6 → getD limits k 0 ≡ 8
+  all-eight k low = decide (ℕ-discrete (getD limits k 0) 8)
+    where
+      decide : Dec (getD limits k 0 ≡ 8) → getD limits k 0 ≡ 8
+      decide (yes e) = e
+      decide (no other) =
+          absurd (true≢false (sym (limit-other limits k 0 (omega arith) other) ∙ any-not (limitsAbsent limits 0) 6 k none low))
+
+  -- so none is at or above any R
+  pub none-absent : (R : ℕ) → anyBelow (limitsAbsent limits R) 6 ≡ false
+  none-absent R = any-none (limitsAbsent limits R) 6 (λ k low. limit-eight limits k R (all-eight k low))
 
 -- "the cell reader's record has 8 everywhere": the rules on limits leave it to the others
 module _ (c : Cell) (eights : c .limits ≡ noLimits) where

@@ -1,5 +1,5 @@
 // The cell: its record, the rules on a record, and its reader.
-mod limits;
+pub mod limits;
 mod ports;
 mod range;
 mod reader;
@@ -77,11 +77,11 @@ fn check_limits(most: &[u8; 6], resource: &[u8; 64], count: usize) -> Verdict
     requires { ⌜ count ≤ 64 ⌝ }
     ensures { λ r. ⌜ r ≡ limitsVerdict (now (most .entry)) (now (resource .entry)) count ⌝ }
 {
-    if !limits::any_absent(most, 0) {
+    if !limits::any_limited(most, 0) {
         return Verdict::Accepted;
     }
     let resources = resources::greatest(resource, count) as usize + 1;
-    if limits::any_absent(most, resources) {
+    if limits::any_limited(most, resources) {
         return Verdict::Refused(Refusal::LimitResource, 0);
     }
     Verdict::Accepted

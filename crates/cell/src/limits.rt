@@ -20,11 +20,11 @@ pub fn any_out_of_range(limits: &[u8; 6]) -> bool
     false
 }
 
-// Whether a resource that isn't there, of so many that are, has another limit than 8.
-pub fn any_absent(limits: &[u8; 6], resources: usize) -> bool
-    ensures { λ r. ⌜ r ≡ anyBelow (limitsAbsent (now (limits .entry)) resources) 6 ⌝ }
+// Whether a resource from `from` on has another limit than 8.
+pub fn any_limited(limits: &[u8; 6], from: usize) -> bool
+    ensures { λ r. ⌜ r ≡ anyBelow (limitsAbsent (now (limits .entry)) from) 6 ⌝ }
 {
-    let mut k = resources;
+    let mut k = from;
     while k < 6 {
         if limits[k] != 8 {
             return true;

@@ -84,7 +84,7 @@ pub record Computed : Type 0 where
   pub end-sized : checkSizes benchCell endRecipe ≡ Accepted
   end-ends : kindOf endRecipe 0 ≡ 0
   -- no station of the bench example has a limit
-  unlimited : anyBelow (λ k. ltb (getD (benchCell .limits) k 0) 8) 6 ≡ false
+  unlimited : anyBelow (cell.limitsAbsent (benchCell .limits) 0) 6 ≡ false
 
 pub computed : Computed
 unfolding isOf firstBelow anyBelow allBelow countBelow greatestBelow tabulate firstRefusal firstLine noLine rule3 cell.leavesRange

@@ -150,6 +150,38 @@ pub fn result(refusal: Refusal) -> u64 {
     u64::from(refusal.number) + 256 * refusal.line as u64
 }
 
+/// A reader as the C interface has it: the file, the record's bytes and the answer.
+type Reader = fn(&[u8], &mut [u8]) -> u64;
+
+/// Reads a file into bytes that begin as `entry`, and wants the library's reader and the independent
+/// one to answer the same and to leave the same. The answer and the bytes.
+pub fn same_reading(
+    file: &[u8],
+    entry: &[u8],
+    library: Reader,
+    independent: Reader,
+) -> (u64, Vec<u8>) {
+    let [from_library, from_independent] = [library, independent].map(|reader| {
+        let mut bytes = entry.to_vec();
+        (reader(file, &mut bytes), bytes)
+    });
+    let shown = |(answer, bytes): &(u64, Vec<u8>)| {
+        format!(
+            "refusal {}, line {}, record {bytes:?}",
+            answer % 256,
+            answer / 256
+        )
+    };
+    assert!(
+        from_library == from_independent,
+        "the file \"{}\"\ninto {entry:?}\nlibrary: {}\nindependent: {}",
+        file.escape_ascii(),
+        shown(&from_library),
+        shown(&from_independent)
+    );
+    from_library
+}
+
 /// The columns of a file.
 pub trait Columns {
     /// The names line with its byte 10.

@@ -13,6 +13,15 @@ use independent::{CARRY, INTERNAL as INTERNAL_MOVE, STAY, TRANSFER};
 /// The limits of a cell without any.
 pub const NO_LIMITS: [u8; MOST_RESOURCES] = [NO_LIMIT; MOST_RESOURCES];
 
+/// Recipes that give one part after another, each by operation 1, and then end.
+pub const TWO_GIVEN: [&str; 3] = ["0,1,1,0,1,1,0", "1,1,1,0,2,2,0", "2,0,0,0,0,0,0"];
+pub const THREE_GIVEN: [&str; 4] = [
+    "0,1,1,0,1,1,0",
+    "1,1,1,0,2,2,0",
+    "2,1,1,0,4,3,0",
+    "3,0,0,0,0,0,0",
+];
+
 /// The value lines of a cell, its limits, and the value lines of a recipe.
 pub struct Pair {
     pub cell: Rows,

@@ -2,7 +2,9 @@
 
 use against::generate::{self, Generate};
 use against::random::Random;
-use against::{line_length, line_start, result, CellFile, Columns, Format, RecipeFile, TOO_SHORT};
+use against::{
+    line_length, line_start, result, same_reading, CellFile, Columns, Format, RecipeFile, TOO_SHORT,
+};
 use independent::{value_line, value_line_bytes, Refusal};
 use std::any::type_name;
 
@@ -35,22 +37,9 @@ fn compare<F: Format>(file: &[u8], random: &mut Random) -> u8 {
 
 /// Reads into a buffer with `spare` bytes past the record, which must stay as they are.
 fn compare_reading<F: Format>(file: &[u8], spare: usize, fill: u8) -> u8 {
-    let mut records = [(); 2].map(|()| vec![fill; F::RECORD_BYTES + spare]);
-    let [from_library, from_independent] = &mut records;
-    let library = F::library(file, from_library);
-    let independent = F::independent(file, from_independent);
-    assert!(
-        library == independent && from_library == from_independent,
-        "the file \"{}\"\nlibrary: refusal {}, line {}, record {:?}\nindependent: refusal {}, line {}, record {:?}",
-        file.escape_ascii(),
-        library % 256,
-        library / 256,
-        from_library,
-        independent % 256,
-        independent / 256,
-        from_independent
-    );
-    (library % 256) as u8
+    let entry = vec![fill; F::RECORD_BYTES + spare];
+    let (answer, _) = same_reading(file, &entry, F::library, F::independent);
+    (answer % 256) as u8
 }
 
 /// Reads into a buffer that is too short, which must stay as it is.

@@ -6,7 +6,7 @@ use against::damage::seeded_cell;
 use against::generate::{self, limits_rows, Generate, Rows};
 use against::pairs::{limits_leave_range, limits_of, some_limits, Pair, NO_LIMITS};
 use against::random::Random;
-use against::{CellFile, Columns, Format, LimitsFile, RecipeFile};
+use against::{same_reading, CellFile, Columns, Format, LimitsFile, RecipeFile};
 use independent::{cell_of_bytes, check_cell, CELL_BYTES, MOST_RESOURCES, NO_LIMIT};
 
 const BENCH_CELL: &[u8] = include_bytes!("../../../examples/bench/cell.csv");
@@ -40,23 +40,9 @@ fn file_of(lines: &[&str]) -> Vec<u8> {
 /// Reads a file for the record in a buffer, and compares what both readers say and leave there. The
 /// refusal and the line.
 fn compare(file: &[u8], cell: &[u8]) -> (u64, u64) {
-    let mut buffers = [(); 2].map(|()| cell.to_vec());
-    let [from_library, from_independent] = &mut buffers;
-    let library = LimitsFile::library(file, from_library);
-    let independent = LimitsFile::independent(file, from_independent);
-    assert!(
-        library == independent && from_library == from_independent,
-        "the file \"{}\"\nfor {cell:?}\nlibrary: refusal {}, line {}, record {:?}\nindependent: refusal {}, line {}, record {:?}",
-        file.escape_ascii(),
-        library % 256,
-        library / 256,
-        from_library,
-        independent % 256,
-        independent / 256,
-        from_independent
-    );
-    assert_kept(library, cell, from_library);
-    (library % 256, library / 256)
+    let (answer, after) = same_reading(file, cell, LimitsFile::library, LimitsFile::independent);
+    assert_kept(answer, cell, &after);
+    (answer % 256, answer / 256)
 }
 
 /// Wants everything as it was, but for the limits if the file was accepted.

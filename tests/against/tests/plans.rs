@@ -3,7 +3,7 @@
 
 use against::calls::{Calls, Library};
 use against::generate::{self, Rows};
-use against::pairs::{limits_of, Pair};
+use against::pairs::{limits_of, Pair, THREE_GIVEN, TWO_GIVEN};
 use against::plans::{Handed, Planned};
 use against::random::Random;
 use against::rounds::accepted;
@@ -183,8 +183,7 @@ fn plan_pair(pair: &Pair) -> Planned {
 
 #[test]
 fn a_nest_for_one_part_does_not_hold_two() {
-    let recipe = ["0,1,1,0,1,1,0", "1,1,1,0,2,2,0", "2,0,0,0,0,0,0"];
-    let nest = |most| plan_pair(&Pair::of_lines(&["0,0,1,1,0"], &[most], &recipe));
+    let nest = |most| plan_pair(&Pair::of_lines(&["0,0,1,1,0"], &[most], &TWO_GIVEN));
     for most in 2..=8 {
         let Planned { refusal, table } = nest(most);
         assert_eq!((refusal, table.len(), table[11]), (0, 12, STAY));
@@ -200,8 +199,7 @@ fn a_nest_for_one_part_does_not_hold_two() {
 #[test]
 fn every_limit_of_every_resource() {
     let mut random = Random::new(12);
-    let recipe = ["0,1,1,0,1,1,0", "1,1,1,0,2,2,0", "2,0,0,0,0,0,0"];
-    let pair = Pair::of_lines(&["0,0,1,1,0"], &[], &recipe);
+    let pair = Pair::of_lines(&["0,0,1,1,0"], &[], &TWO_GIVEN);
     for k in 0..MOST_RESOURCES {
         for most in 0..=255 {
             let mut handed = Handed {
@@ -246,17 +244,11 @@ fn two_parts_wait_in_a_nest_for_both() {
 #[test]
 fn a_move_that_mends_leads_to_a_plan_and_is_in_none() {
     let cell = ["0,0,1,1,0", "0,0,3,0,0", "1,0,2,0,0"];
-    let recipe = [
-        "0,1,1,0,1,1,0",
-        "1,1,1,0,2,2,0",
-        "2,1,1,0,4,3,0",
-        "3,0,0,0,0,0,0",
-    ];
-    let Planned { refusal, table } = plan_pair(&Pair::of_lines(&cell, &[1, 8], &recipe));
+    let Planned { refusal, table } = plan_pair(&Pair::of_lines(&cell, &[1, 8], &THREE_GIVEN));
     // At 58 two parts stand at the first station, at 62 both at the second.
     assert_eq!((refusal, table[58]), (0, 0));
     assert_ne!(table[62], 0);
-    let Planned { refusal, table } = plan_pair(&Pair::of_lines(&cell, &[2, 8], &recipe));
+    let Planned { refusal, table } = plan_pair(&Pair::of_lines(&cell, &[2, 8], &THREE_GIVEN));
     assert_eq!((refusal, table[58]), (0, 33_554_561));
 }
 

@@ -3,7 +3,7 @@
 
 use against::calls::{Calls, Independent, Library};
 use against::generate::{self, Rows};
-use against::pairs::{full_pair, limits_of, Pair};
+use against::pairs::{full_pair, limits_of, Pair, THREE_GIVEN, TWO_GIVEN};
 use against::rounds::{accepted, compare, Round, Table};
 use against::{CellFile, Format, RecipeFile};
 use independent::{
@@ -177,8 +177,7 @@ fn answers_at(pair: &Pair, position: u64, entry: u32) -> (u64, u32) {
 
 /// A nest for parts that are given one after the other.
 fn nest(most: u8) -> Pair {
-    let recipe = ["0,1,1,0,1,1,0", "1,1,1,0,2,2,0", "2,0,0,0,0,0,0"];
-    Pair::of_lines(&["0,0,1,1,0"], &[most], &recipe)
+    Pair::of_lines(&["0,0,1,1,0"], &[most], &TWO_GIVEN)
 }
 
 #[test]
@@ -197,13 +196,7 @@ fn a_move_that_overfills_a_station_is_not_open_and_an_end_is_an_end() {
 #[test]
 fn a_move_that_mends_an_overfull_station_is_open() {
     let lines = ["0,0,1,1,0", "0,0,3,0,0", "1,0,2,0,0", "1,0,0,0,0"];
-    let recipe = [
-        "0,1,1,0,1,1,0",
-        "1,1,1,0,2,2,0",
-        "2,1,1,0,4,3,0",
-        "3,0,0,0,0,0,0",
-    ];
-    let limited = |limits| Pair::of_lines(&lines, limits, &recipe);
+    let limited = |limits| Pair::of_lines(&lines, limits, &THREE_GIVEN);
     let (carry, hand_over, work) = (50_331_648, 33_554_561, 16_777_219);
     for (limits, open) in [
         // The first station is mended, and nothing else may be done before.

@@ -8,13 +8,13 @@ use borrow.Author.Needs.{needs}
 use Rattle.cell.proofs.check_limits.Statement.{statement}
 use Rattle.cell.proofs.check_limits.Tie as tie
 
-any-absent-requires : tie.Need-any-absent-requires
-any-absent-requires c κs = search needs
+any-limited-requires : tie.Need-any-limited-requires
+any-limited-requires c κs = search needs
 
 returns : tie.Need-returns
 unfolding limitsVerdict
 returns c =
-    sym (noLine-kept LimitResource _ (none-absent _ _ (sym (c .before .any-absent .ensures) ∙ not-true _ (c .if1 .taken))))
+    sym (noLine-kept LimitResource _ (none-absent _ (sym (c .before .any-limited .ensures) ∙ not-true _ (c .if1 .taken)) _))
 
 greatest-requires : tie.Need-greatest-requires
 greatest-requires c κs = search needs
@@ -25,30 +25,30 @@ cast-resources c = search needs
 add-resources : tie.Need-add-resources
 add-resources c = search needs
 
-any-absent-requires-2 : tie.Need-any-absent-requires-2
-any-absent-requires-2 c κs = search needs
+any-limited-requires-2 : tie.Need-any-limited-requires-2
+any-limited-requires-2 c κs = search needs
 
 returns-2 : tie.Need-returns-2
 unfolding limitsVerdict
 returns-2 c =
     rw (← c .before .before .greatest .ensures)
-    (sym (noLine-broken LimitResource _ (sym (c .before .any-absent2 .ensures) ∙ c .if2 .taken)))
+    (sym (noLine-broken LimitResource _ (sym (c .before .any-limited2 .ensures) ∙ c .if2 .taken)))
 
 returns-3 : tie.Need-returns-3
 unfolding limitsVerdict
 returns-3 c =
     rw (← c .before .before .greatest .ensures)
-    (sym (noLine-kept LimitResource _ (sym (c .before .any-absent2 .ensures) ∙ c .if2 .left)))
+    (sym (noLine-kept LimitResource _ (sym (c .before .any-limited2 .ensures) ∙ c .if2 .left)))
 
 pub check-limits-spec : {M : Type 1} → statement M
 check-limits-spec =
     tie.close
     (tie.spec
-    any-absent-requires
+    any-limited-requires
     returns
     greatest-requires
     cast-resources
     add-resources
-    any-absent-requires-2
+    any-limited-requires-2
     returns-2
     returns-3)

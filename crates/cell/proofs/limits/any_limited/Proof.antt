@@ -1,4 +1,4 @@
--- The loop: no resource before k is absent and has another limit than 8.
+-- The loop: no resource before k is among those looked at and has another limit than 8.
 use mathlib.Core.Path.{_≡_, sym}
 use mathlib.Core.Bool.{false}
 use Prim.Native.Nat.{_≤_, _-_}
@@ -8,11 +8,11 @@ use Rattle.refusals.proofs.Scan.{any-more, any-hit}
 use Rattle.refusals.proofs.EveryBelow.{any-none, any-not}
 use Rattle.cell.specs.Rules.{limitsAbsent}
 use Rattle.cell.proofs.StationLimits.{limit-present, limit-other, limit-eight}
-use Rattle.cell.proofs.limits.any_absent.Statement.{statement}
-use Rattle.cell.proofs.limits.any_absent.Tie as tie
+use Rattle.cell.proofs.limits.any_limited.Statement.{statement}
+use Rattle.cell.proofs.limits.any_limited.Tie as tie
 
 abbrev Inv-loop : tie.InvT-loop
-Inv-loop limits resources k₀ k = (resources ≤ k) × (anyBelow (limitsAbsent limits resources) k ≡ false)
+Inv-loop limits from k₀ k = (from ≤ k) × (anyBelow (limitsAbsent limits from) k ≡ false)
 
 abbrev μ-loop : tie.MeasureT-loop
 μ-loop limits resources k₀ k = 6 - k
@@ -41,8 +41,8 @@ loop-again c = (omega arith, any-more _ _ (c .before .before .before .loop .inv 
 returns-2 : tie.Need-returns-2 Inv-loop μ-loop
 returns-2 c = sym (any-none _ 6 (λ k low. any-not _ _ k (c .before .loop .inv .1) (omega arith)))
 
-pub any-absent-spec : {M : Type 1} → statement M
-any-absent-spec =
+pub any-limited-spec : {M : Type 1} → statement M
+any-limited-spec =
     tie.close
     (tie.spec
     Inv-loop
