@@ -1,12 +1,13 @@
 /*
  * The cell planner's C interface: the readers of the cell file, the limits file and the recipe file, the
- * planner, and the run over a table.
+ * planner, the list of processes to install, and the run over a table.
  *
  * A slice of bytes is passed as a pointer and a length in bytes, a table as a pointer and its number of
  * entries (elements, not bytes). No pointer may be NULL, also where the length is 0. What a call may
- * write (a reader's record, the planner's table and scratch, the run of fresh, of report and of
- * report_record) must not overlap anything else that it is handed. No call keeps a pointer, and calls
- * from several threads need no lock as long as none writes what another one uses.
+ * write (a reader's record, the table and the scratch of plan and of install, the list of install, the
+ * run of fresh, of report and of report_record) must not overlap anything else that it is handed. No call
+ * keeps a pointer, and calls from several threads need no lock as long as none writes what another one
+ * uses.
  *
  * A cell record has CELLPLAN_CELL_BYTES bytes: byte 0 is the line count, then follow 64 times
  *     resource, from, act, arg, to,
@@ -64,9 +65,10 @@
  *     12  Recipe: a do's `then` or a test's `then` or `else` is N or more, N being the number of
  *         points.
  *     13  M exceeds CELLPLAN_MOST_POSITIONS.
- *     14  The table has fewer than M entries, or the planner's scratch fewer than M bytes. Of
+ *     14  The table has fewer than M entries, or the scratch of plan or install fewer than M bytes. Of
  *         read_cell, read_recipe and fresh: the buffer lent for the record or the run is too short.
  *         That is tried before all else, names no line, and leaves the buffer as it was.
+ *     21  Install: the cell has 64 lines already, so that there is no place for another one.
  *     15  Planner: the cell cannot build the recipe so that no resource ever holds more parts than its
  *         limit. The table is filled all the same.
  *     16  Run: a point of N or more, a state or place outside its count, or a number other than 0 for a
@@ -98,9 +100,21 @@ extern "C" {
 /* The most positions that rule 13 lets pass. A table of so many entries is never too short. */
 #define CELLPLAN_MOST_POSITIONS 1048576
 
+/*
+ * The bytes of a process in the list of an install call, and more processes than there can be: those of
+ * six resources, eight states to begin in and to end in, 64 operations. A list of so many is never too
+ * short.
+ */
+#define CELLPLAN_PROCESS_BYTES 4
+#define CELLPLAN_MOST_PROCESSES 24576
+
 /* The refusal and the line in a reader's result. */
 #define CELLPLAN_REFUSAL(result) ((unsigned)((uint64_t)(result) % 256))
 #define CELLPLAN_LINE(result) ((uint64_t)(result) / 256)
+
+/* The refusal and the count in an install call's result. */
+#define CELLPLAN_INSTALL_REFUSAL(result) ((unsigned)((uint64_t)(result) >> 32))
+#define CELLPLAN_INSTALL_COUNT(result) ((uint32_t)((uint64_t)(result) & 0xffffffff))
 
 /* The refusal and the entry in a next-move call's result. */
 #define CELLPLAN_MOVE_REFUSAL(result) ((unsigned)((uint64_t)(result) >> 32))
@@ -164,6 +178,25 @@ uint32_t cellplan_plan(const uint8_t *cell, size_t cell_length,
                        const uint8_t *recipe, size_t recipe_length,
                        uint32_t *table, size_t table_entries,
                        uint8_t *scratch, size_t scratch_length);
+
+/*
+ * Lists the processes that the cell lacks: every operation line (act 1) that isn't in the cell and that
+ * alone, added behind the cell's lines, makes the cell able to build the recipe within its limits. Such a
+ * line has a resource of the cell, states that this resource has already, and the operation of a do or a
+ * test of the recipe. Nothing is listed if the cell can build the recipe as it is. The result is
+ *     refusal * 2^32 + count,
+ * with count 0 if refused. The refusals from 13 on are tried in the order 13, 14, 21; the last is given
+ * also if nothing is lacking, and 15 never. Accepted, the list gets, for each process,
+ *     resource, from, operation, to,
+ * rising by these four numbers in this order, each once, as far as whole ones fit. The bytes of the list
+ * past these stay as they were, and the count is that of all processes, those too for which there was no
+ * place. What the table and the scratch then hold is free. Refused, all three stay as they were.
+ */
+uint64_t cellplan_install(const uint8_t *cell, size_t cell_length,
+                          const uint8_t *recipe, size_t recipe_length,
+                          uint32_t *table, size_t table_entries,
+                          uint8_t *scratch, size_t scratch_length,
+                          uint8_t *list, size_t list_length);
 
 /*
  * Writes the fresh run: point 0, every resource in state 0, every part outside. The result is 0, or 14

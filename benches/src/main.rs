@@ -1,9 +1,11 @@
 //! Times the library through the C interface beside the independent program: the readers, the calls of
-//! a run, and the planner, this also beside the same search in plain Rust.
+//! a run, and the planner, this also beside the same search in plain Rust. The list of processes to install
+//! is timed beside the library's planner.
 //!
-//! Run with `cargo run --release --offline -p benches`, followed by `readers`, `runs` or `plans` for
-//! these alone.
+//! Run with `cargo run --release --offline -p benches`, followed by `readers`, `runs`, `plans` or `installs`
+//! for these alone.
 
+mod installs;
 mod plain;
 mod plans;
 mod readers;
@@ -13,10 +15,11 @@ use std::env;
 use std::time::{Duration, Instant};
 
 /// The parts of the benchmark by their names.
-const PARTS: [(&str, fn()); 3] = [
+const PARTS: [(&str, fn()); 4] = [
     ("readers", readers::measure_all),
     ("runs", runs::measure_all),
     ("plans", plans::measure_all),
+    ("installs", installs::measure_all),
 ];
 
 /// How long one round takes at least. Short rounds find the quiet moments of a busy machine.

@@ -22,17 +22,17 @@ type Plan = fn(&[u8], &[u8], &mut [u32], &mut [u8]) -> u32;
 
 /// What a planner is handed.
 #[derive(Clone)]
-struct Case {
-    name: String,
-    cell: Vec<u8>,
-    recipe: Vec<u8>,
-    table: Vec<u32>,
-    scratch: Vec<u8>,
-    least_rounds: usize,
+pub struct Case {
+    pub name: String,
+    pub cell: Vec<u8>,
+    pub recipe: Vec<u8>,
+    pub table: Vec<u32>,
+    pub scratch: Vec<u8>,
+    pub least_rounds: usize,
 }
 
 impl Case {
-    fn new(name: &str, (cell, recipe): (Cell, Recipe), least_rounds: usize) -> Case {
+    pub fn new(name: &str, (cell, recipe): (Cell, Recipe), least_rounds: usize) -> Case {
         let positions = Sizes::of(&cell, &recipe).positions as usize;
         Case {
             name: name.to_string(),
@@ -44,12 +44,17 @@ impl Case {
         }
     }
 
-    fn time(&mut self, plan: Plan, calls: usize) -> Duration {
+    /// Makes so many calls that are handed what a planner is.
+    pub fn time<T>(
+        &mut self,
+        mut call: impl FnMut(&[u8], &[u8], &mut [u32], &mut [u8]) -> T,
+        calls: usize,
+    ) -> Duration {
         let start = Instant::now();
         for _ in 0..calls {
             let (cell, recipe) = (black_box(&self.cell[..]), black_box(&self.recipe[..]));
             let (table, scratch) = (&mut self.table[..], &mut self.scratch[..]);
-            black_box(plan(cell, recipe, black_box(table), black_box(scratch)));
+            black_box(call(cell, recipe, black_box(table), black_box(scratch)));
         }
         start.elapsed()
     }
@@ -112,7 +117,7 @@ pub fn measure_all() {
     );
     println!(" {:>6} {:>6}", "ratio", "ratio");
     for (name, pair) in [
-        ("bench example", bench_pair()),
+        ("bench example", pair_of_files(BENCH_CELL, BENCH_RECIPE)),
         ("29 lines, 14 silent moves", mixed(29, 14, 6)),
         ("64 lines, 52 silent moves", mixed(64, 52, 3)),
         ("dense", dense_pair()),
@@ -148,11 +153,12 @@ fn with_limits((mut cell, recipe): (Cell, Recipe), limits: [u8; 3]) -> (Cell, Re
     (cell, recipe)
 }
 
-fn bench_pair() -> (Cell, Recipe) {
+/// The records of two files.
+pub fn pair_of_files(cell_file: &[u8], recipe_file: &[u8]) -> (Cell, Recipe) {
     let mut cell = [0; CellFile::RECORD_BYTES];
     let mut recipe = [0; RecipeFile::RECORD_BYTES];
-    assert_eq!(CellFile::library(BENCH_CELL, &mut cell), 0);
-    assert_eq!(RecipeFile::library(BENCH_RECIPE, &mut recipe), 0);
+    assert_eq!(CellFile::library(cell_file, &mut cell), 0);
+    assert_eq!(RecipeFile::library(recipe_file, &mut recipe), 0);
     (cell_of_bytes(&cell), recipe_of_bytes(&recipe))
 }
 

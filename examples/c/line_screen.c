@@ -10,12 +10,9 @@
 #include <stdint.h>
 #include <stdio.h>
 #include <stdlib.h>
-#include <string.h>
 
 #include "cellplan.h"
-
-/* No file that is accepted is longer, and the start of a longer one is refused too. */
-#define FILE_BYTES 8192
+#include "files.h"
 
 /* The fields of a cell line and of a recipe line. */
 enum { RESOURCE, FROM, ACT, ARG, TO, CELL_FIELDS };
@@ -24,81 +21,12 @@ enum { POINT, KIND, OP, TAKES, GIVES, THEN, ELSE, RECIPE_FIELDS };
 /* The kind of a test. */
 #define TEST 2
 
-typedef uint64_t reader(const uint8_t *file, size_t file_length,
-                        uint8_t *record, size_t record_length);
-
 struct screen {
     uint8_t cell[CELLPLAN_CELL_BYTES];
     uint8_t recipe[CELLPLAN_RECIPE_BYTES];
     uint32_t *table;
     struct cellplan_run run;
 };
-
-static void fail(const char *what)
-{
-    perror(what);
-    exit(EXIT_FAILURE);
-}
-
-static void refuse(const char *what, unsigned refusal)
-{
-    printf("%s: refused %u\n", what, refusal);
-    exit(EXIT_FAILURE);
-}
-
-/* A damaged line may hold any byte, and some would upset a terminal. */
-static void print_line(const uint8_t *line, size_t length)
-{
-    size_t i;
-
-    printf(": ");
-    for (i = 0; i < length; i++)
-        putchar(line[i] >= 0x20 && line[i] < 0x7f ? line[i] : '?');
-}
-
-/* Shows a refused file with the line that the refusal names, and ends. */
-static void refuse_file(const char *what, uint64_t result, const uint8_t *bytes, size_t length)
-{
-    uint64_t line = CELLPLAN_LINE(result);
-
-    printf("%s: refused %u", what, CELLPLAN_REFUSAL(result));
-    if (line > 0)
-        printf(" at line %llu", (unsigned long long)line);
-    if (line > 1) {
-        size_t n = (size_t)(line - 2);
-        size_t start = cellplan_line_start(bytes, length, n);
-        size_t line_length = cellplan_line_length(bytes, length, n);
-        if (line_length > 0)
-            print_line(bytes + start, line_length);
-    }
-    putchar('\n');
-    exit(EXIT_FAILURE);
-}
-
-static void read_record(const char *what, const char *path, reader *read,
-                        uint8_t *record, size_t record_length)
-{
-    uint8_t bytes[FILE_BYTES];
-    FILE *stream = fopen(path, "rb");
-    size_t length;
-    uint64_t result;
-
-    if (stream == NULL)
-        fail(path);
-    length = fread(bytes, 1, sizeof bytes, stream);
-    fclose(stream);
-    result = read(bytes, length, record, record_length);
-    if (result != 0)
-        refuse_file(what, result, bytes, length);
-}
-
-/* The limits, if there is a file of them, become part of the cell's record. */
-static void read_cell(struct screen *screen, const char *path, const char *limits)
-{
-    read_record("cell", path, cellplan_read_cell, screen->cell, sizeof screen->cell);
-    if (limits != NULL)
-        read_record("limits", limits, cellplan_read_limits, screen->cell, sizeof screen->cell);
-}
 
 /* Plans with as many places as a plan can need. */
 static void plan(struct screen *screen)
@@ -261,24 +189,14 @@ static void report(struct screen *screen, uint32_t entry, uint8_t outcome)
 int main(int argc, char **argv)
 {
     struct screen screen;
-    const char *limits = NULL;
     uint32_t entry;
-    int n = 1;
+    int n = read_files(argc, argv, "line_screen [-l LIMITS] CELL RECIPE [OUTCOME ..]",
+                       screen.cell, screen.recipe);
 
-    if (argc > 2 && strcmp(argv[1], "-l") == 0) {
-        limits = argv[2];
-        n = 3;
-    }
-    if (argc < n + 2) {
-        fprintf(stderr, "usage: line_screen [-l LIMITS] CELL RECIPE [OUTCOME ..]\n");
-        return EXIT_FAILURE;
-    }
-    read_cell(&screen, argv[n], limits);
-    read_record("recipe", argv[n + 1], cellplan_read_recipe, screen.recipe, sizeof screen.recipe);
     plan(&screen);
     cellplan_fresh((uint8_t *)&screen.run, sizeof screen.run);
     entry = show_move(&screen);
-    for (n += 2; n < argc; n++) {
+    for (; n < argc; n++) {
         report(&screen, entry, outcome_of(argv[n]));
         entry = show_move(&screen);
     }

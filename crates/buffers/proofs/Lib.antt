@@ -1,1 +1,1 @@
-mod StoredBytes
+pub mod StoredBytes

@@ -1,9 +1,9 @@
--- The two answers of a call that writes: the lent buffer is too short, or it holds the record, its limits or the run; and the
--- plan call's.
+-- The two answers of a call that writes: the lent buffer is too short, or it holds the record, its limits or the run; and those of
+-- the plan call and the install call.
 -- Assumes nothing.
 use mathlib.Core.Path.{_≡_, refl, sym, ap, _∙_, subst}
 use mathlib.Core.List.{List, _++_}
-use Prim.Native.Nat.{ℕ, _+_, _<_, _≤_}
+use Prim.Native.Nat.{ℕ, _+_, _*_, _<_, _≤_}
 use native.Mathlib.Omega.{arith}
 use lib.ListN.{length, getD, take, drop}
 use lib.Seq.{sets, sets-eq}
@@ -19,8 +19,10 @@ use Rattle.limits.specs.Reader.{readLimits}
 use Rattle.recipe.specs.declared.Recipe.{Recipe}
 use Rattle.run.specs.declared.Report.{Report}
 use Rattle.planner.specs.Call.{PlanCall}
+use Rattle.install.specs.declared.Listing.{Listing}
+use Rattle.install.specs.Call.{InstallCall}
 use Rattle.capi.specs.Encoding.{codeOf, cellBytes, cellFrom, runBytes}
-use Rattle.capi.specs.Answer.{BufferAnswered, LimitsAnswered, Reported, PlanAnswered}
+use Rattle.capi.specs.Answer.{BufferAnswered, LimitsAnswered, Reported, PlanAnswered, InstallAnswered}
 use Rattle.capi.proofs.BytesRoundTrip.{limitedTo, cell-lines-back}
 use Rattle.capi.proofs.LimitsInBytes.{only-limits}
 
@@ -89,4 +91,21 @@ plan-answered {c′ = c′} {r = r} {table = table} {scratch = scratch} {table�
       call =
           subst (λ (y : Recipe). PlanCall c′ y table scratch table′ scratch′ verdict) recipe-is
           (subst (λ (x : Cell). PlanCall x r table scratch table′ scratch′ verdict) cell-is call);
+    }
+
+-- the install call on the records that the bytes hold
+pub install-answered :
+    {c c′ : Cell} {r r′ : Recipe} {table scratch list table′ scratch′ list′ : List ℕ} {listing : Listing} {refusal : ℕ}
+    → c ≡ c′
+    → r ≡ r′
+    → refusal ≡ refusalIn (listing .verdict)
+    → InstallCall c r table scratch list table′ scratch′ list′ listing
+    → InstallAnswered c′ r′ table scratch list table′ scratch′ list′ (refusal * 4294967296 + listing .count)
+install-answered {c′ = c′} {r = r} {table} {scratch} {list} {table′} {scratch′} {list′} {listing} cell-is recipe-is number call =
+    record {
+      listing = listing;
+      answer-is = ap (λ (n : ℕ). n * 4294967296 + listing .count) number;
+      call =
+          subst (λ (y : Recipe). InstallCall c′ y table scratch list table′ scratch′ list′ listing) recipe-is
+          (subst (λ (x : Cell). InstallCall x r table scratch list table′ scratch′ list′ listing) cell-is call);
     }

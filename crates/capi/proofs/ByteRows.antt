@@ -5,32 +5,10 @@ use Prim.Native.Nat.{ℕ, zero, suc, _+_, _*_, _<_, _≤_}
 use native.Mathlib.Nat.{mul-le-mul-right}
 use native.Mathlib.Numerals.{add-one}
 use native.Mathlib.Omega.{arith}
-use lib.ListN.{length, set, drop, length-append, length-drop}
-use lib.Seq.{take-at, drop-append-add, drop-drop, sets, sets-eq, set-split, drop-set-lt, length-sets}
+use lib.ListN.{length, set, drop, length-append}
+use lib.Seq.{sets, set-split, drop-set-lt, length-sets}
+use Rattle.buffers.proofs.StoredBytes.{put-after, put-next}
 use Rattle.capi.specs.Encoding.{rowsOf}
-
--- some bytes put after what was put before
-put-after : (P old vs : List ℕ) → length P + length vs ≤ length old
-    → sets (P ++ drop (length P) old) (length P) vs ≡ (P ++ vs) ++ drop (length P + length vs) old
-put-after P old vs room =
-    sets-eq vs (P ++ drop (length P) old) (length P) (omega (arith, length-append P (drop (length P) old), length-drop (length P) old))
-    ∙ ap (λ (l : List ℕ). (l ++ vs) ++ drop (length P + length vs) (P ++ drop (length P) old)) (take-at P (drop (length P) old) (length P) refl)
-    ∙ ap (λ (l : List ℕ). (P ++ vs) ++ l) (drop-append-add P (drop (length P) old) (length vs) ∙ drop-drop (length vs) (length P) old)
-
--- so a piece is put behind those that stand at the start
-pub put-next :
-    (P old vs before after : List ℕ) (n k : ℕ)
-    → before ≡ P ++ drop n old
-    → after ≡ sets before n vs
-    → length P ≡ n
-    → n + length vs ≡ k
-    → k ≤ length old
-    → after ≡ (P ++ vs) ++ drop k old
-put-next P old vs before after n k is put here next room =
-    put ∙ ap (λ (b : List ℕ). sets b n vs) is
-    ∙ ap (λ (i : ℕ). sets (P ++ drop i old) i vs) (sym here)
-    ∙ put-after P old vs (omega arith)
-    ∙ ap (λ (i : ℕ). (P ++ vs) ++ drop i old) (ap (λ (i : ℕ). i + length vs) here ∙ next)
 
 -- three pieces put at the start
 pub put-three :

@@ -18,6 +18,8 @@ use Rattle.run.specs.declared.Report.{Report}
 use Rattle.run.specs.declared.Run.{Run}
 use Rattle.run.specs.Calls.{Stored}
 use Rattle.planner.specs.Call.{PlanCall}
+use Rattle.install.specs.declared.Listing.{Listing}
+use Rattle.install.specs.Call.{InstallCall}
 use Rattle.capi.specs.Encoding.{codeOf, cellBytes, runBytes}
 
 -- a buffer lent for the answer that is too short gets 14 with line 0, whatever else was handed in, and stays as it was;
@@ -58,3 +60,9 @@ pub record PlanAnswered (c : Cell) (r : Recipe) (table scratch table′ scratch�
   pub verdict : Verdict
   pub answer-is : answer ≡ refusalIn verdict
   pub call : PlanCall c r table scratch table′ scratch′ verdict
+
+-- an install call's result: refusal × 2^32 + count, those of the listing with which the call leaves table, scratch and list so
+pub record InstallAnswered (c : Cell) (r : Recipe) (table scratch list table′ scratch′ list′ : List ℕ) (answer : ℕ) : Type 0 where
+  pub listing : Listing
+  pub answer-is : answer ≡ refusalIn (listing .verdict) * 2 ^ 32 + listing .count
+  pub call : InstallCall c r table scratch list table′ scratch′ list′ listing

@@ -13,7 +13,7 @@ ghost use Rattle.refusals.specs.Verdict.{refusalIn};
 ghost use Rattle.positions.specs.Rules.{checkSizes};
 ghost use Rattle.run.specs.Calls.{freshRun, nextMove, reportOf, partPlace};
 ghost use Rattle.capi.specs.Encoding.{codeOf, cellBytes, recipeBytes, cellFrom, recipeFrom, runBytes, runFrom};
-ghost use Rattle.capi.specs.Answer.{BufferAnswered, LimitsAnswered, moveCode, placeCode, Reported, Recorded, PlanAnswered};
+ghost use Rattle.capi.specs.Answer.{BufferAnswered, LimitsAnswered, moveCode, placeCode, Reported, Recorded, PlanAnswered, InstallAnswered};
 use refusals::Refusal;
 use refusals::Verdict;
 use run::Run;
@@ -127,6 +127,28 @@ pub extern "C" fn cellplan_plan(
 {
     let verdict = planner::plan(get::get_cell(cell), get::get_recipe(recipe), table, scratch);
     refusal_number(verdict) as u32
+}
+
+// Lists the operation lines of which each alone would make the recipe acceptable, or refuses.
+#[no_mangle]
+pub extern "C" fn cellplan_install(
+    cell: &[u8],
+    recipe: &[u8],
+    table: &mut [u32],
+    scratch: &mut [u8],
+    list: &mut [u8],
+) -> u64
+    ensures { λ r. ⌜ InstallAnswered (cellFrom (now (cell .entry))) (recipeFrom (now (recipe .entry))) (now (table .entry)) (now (scratch .entry)) (now (list .entry)) (now (table .exit)) (now (scratch .exit)) (now (list .exit)) r ⌝ }
+{
+    let listing = install::install(
+        get::get_cell(cell),
+        get::get_recipe(recipe),
+        table,
+        scratch,
+        list,
+    );
+    let verdict = listing.verdict;
+    refusal_number(verdict) as u64 * 4294967296 + listing.count as u64
 }
 
 // Writes a fresh run.

@@ -1,5 +1,6 @@
 // The cell: its record, the rules on a record, and its reader.
 pub mod limits;
+pub mod longer;
 mod ports;
 mod range;
 mod reader;
@@ -25,6 +26,14 @@ pub struct Cell {
     pub arg: [u8; 64],
     pub to: [u8; 64],
     pub limits: [u8; 6],
+}
+
+// An operation line: one of act 1.
+pub struct OperationLine {
+    pub resource: u8,
+    pub from: u8,
+    pub operation: u8,
+    pub to: u8,
 }
 
 // What a reader returns: its verdict and the record. Beside a refusal `read_cell` has a record of no lines, and a reader

@@ -86,6 +86,14 @@ module _ (f g : ℕ → Bool) where
   count-same zero same = refl
   count-same (suc n) same = rw (same n (omega arith), count-same n (λ i low. same i (omega arith)))
 
+  -- and where one passes somewhere, the other does, with a number more too
+  pub any-longer : (n : ℕ) → ((i : ℕ) → i < n → f i ≡ g i) → anyBelow f n ≡ true → anyBelow g (suc n) ≡ true
+  any-longer n same e = decide (anyBelow g (suc n)) refl
+    where
+      decide : (b : Bool) → anyBelow g (suc n) ≡ b → anyBelow g (suc n) ≡ true
+      decide true h = h
+      decide false h = let z : true ≡ false = sym e ∙ any-none f n (λ i low. same i low ∙ any-not g (suc n) i h (omega arith)) in cc
+
 -- one that passes at one number more passes once more
 pub count-more :
     (f g : ℕ → Bool) (n k : ℕ)

@@ -155,6 +155,15 @@ module _ (f : ℕ → ℕ) where
   greatest-within zero most each = omega arith
   greatest-within (suc n) most each = max-le (each n (omega arith)) (greatest-within n most (λ i low. each i (omega arith)))
 
+-- one value more that is no greater leaves the greatest
+pub greatest-longer : (f g : ℕ → ℕ) (n : ℕ) → ((i : ℕ) → i < n → g i ≡ f i) → g n ≤ greatestBelow f n → greatestBelow g (suc n) ≡ greatestBelow f n
+unfolding greatestBelow
+greatest-longer f g n same last = rw (agree n same) (max-eq-right last)
+  where
+    agree : (m : ℕ) → ((i : ℕ) → i < m → g i ≡ f i) → greatestBelow g m ≡ greatestBelow f m
+    agree zero each = refl
+    agree (suc m) each = rw (each m (omega arith), agree m (λ i low. each i (omega arith)))
+
 -- what a loop that counted up to n has shown: a search that found nothing before n
 pub first-all : (f : ℕ → Bool) (first n : ℕ) → first ≡ firstBelow f n → n ≤ first → firstBelow f n ≡ n
 first-all f first n found high = omega (arith, first-le f n)

@@ -1,5 +1,6 @@
 -- The verdicts of rules: what they are, and what one that accepts says of what was judged. Assumes nothing.
 use mathlib.Core.Path.{_≡_, refl}
+use mathlib.Core.Logic.{_⊎_, inl, inr}
 use mathlib.Core.Bool.{Bool, true, false, cond, _&&_, _||_}
 use mathlib.Core.List.{List, _∷_}
 use Prim.Native.Nat.{ℕ, _+_, _<_, _≤_}
@@ -17,7 +18,7 @@ use Rattle.refusals.specs.declared.Verdict.the-variants.{Accepted, Refus
 use Rattle.refusals.specs.Search.{firstBelow}
 use Rattle.refusals.specs.Refusal.{numberOf}
 use Rattle.refusals.specs.Verdict.{firstRefusal, lineVerdict, firstLine, noLine, rule3, refusalIn}
-use Rattle.refusals.proofs.Scan.{first-le, first-none}
+use Rattle.refusals.proofs.Scan.{first-le, first-none, first-past}
 
 pub and-left : (a b : Bool) → (a && b) ≡ true → a ≡ true
 and-left true b e = refl
@@ -35,6 +36,11 @@ pub or-right : (a b : Bool) → (a || b) ≡ false → b ≡ false
 or-right true b e = cc
 or-right false b e = e
 
+-- one of two tests holds
+pub or-cases : (a b : Bool) → (a || b) ≡ true → (a ≡ true) ⊎ (b ≡ true)
+or-cases true b e = inl refl
+or-cases false b e = inr e
+
 -- a verdict by a test that accepts: the test fails
 test-fails : (b : Bool) (refusal : Refusal) (line : ℕ) → cond b (Refused refusal line) Accepted ≡ Accepted → b ≡ false
 test-fails true refusal line e = cc
@@ -46,6 +52,11 @@ unfolding firstLine lineVerdict
 none-breaks refusal breaks count e n low =
     let past : count ≤ firstBelow breaks count = ltb-false _ _ (test-fails _ _ _ e) in
     first-none breaks n count low (omega (arith, first-le breaks count))
+
+-- where no line breaks a rule, it accepts
+pub none-broken : (refusal : Refusal) (breaks : ℕ → Bool) (count : ℕ) → ((n : ℕ) → n < count → breaks n ≡ false) → firstLine refusal breaks count ≡ Accepted
+unfolding firstLine lineVerdict
+none-broken refusal breaks count none = rw (first-past breaks count none, le-ltb count count (omega arith))
 
 -- a rule that names no line, by its test
 pub noLine-broken : (refusal : Refusal) (b : Bool) → b ≡ true → noLine refusal b ≡ Refused refusal 0

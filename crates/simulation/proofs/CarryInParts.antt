@@ -26,7 +26,7 @@ use Rattle.steps.specs.Joint.{Choice, rests, mayDo, acts, isStep, isSilent, han
 use Rattle.steps.specs.Carry.{serves, matches, standsAt, present, isFree, free, suits, carries, putThere, placed, partsMoved, afterCarry}
 use Rattle.steps.proofs.ReadyLines.{both, resources-fit}
 use Rattle.steps.proofs.StationLoads.{carry-suits, carry-room, carry-by, room-at, room-by, rest-load}
-use Rattle.steps.proofs.CarryLines.{match-at, taken-at, match-count}
+use Rattle.steps.proofs.CarryLines.{suiting, match-at, taken-at, match-count}
 use Rattle.steps.proofs.MadeConfiguration.{join}
 use Rattle.simulation.proofs.StepInParts.{part, rest, Closed, part-in, part-out, rest-in, part-silent, part-keeps, may-same}
 use Rattle.simulation.proofs.StepInParts.{part-step, after-place, rest-step, parted-after, part-load}
@@ -38,12 +38,6 @@ AllOperations c x s = (k : ℕ) → k < 6 → acts c 1 (x k) ≡ true → s k �
 
 abbrev pub NoOperation : Cell → Choice → (ℕ → Bool) → Type 0
 NoOperation c x s = (k : ℕ) → k < 6 → acts c 1 (x k) ≡ true → s k ≡ false
-
--- a step that suits a point is a step, and matches its lines
-suiting : (c : Cell) (r : Recipe) (p : ℕ) (x : Choice) (ls : ℕ → ℕ) (a : Configuration)
-    → suits c r p x ls a ≡ true → (isStep c a x ≡ true) × (matches c r p x ls ≡ true)
-unfolding suits
-suiting c r p x ls a h = (search and-left, search (and-left, and-right))
 
 -- it finds the parts that the point takes, and at a do room for those that it gives
 found : (c : Cell) (r : Recipe) (p : ℕ) (x : Choice) (ls : ℕ → ℕ) (a : Configuration)

@@ -1,8 +1,9 @@
 -- The method over any machine (Machine, LostNeverHeld, ClosedSet, Stages) and the cell and the recipe as one (CellMachine);
 -- joint steps part by part and as single moves (PortPairs, StepInParts, CarriedLoads, CarryInParts,
 -- SinglePaths, StepIsPath, JointIsSingle);
--- what the book does (BookBySingles), closed tables (ClosedTablePromises), rules (LostBreaksRules, TableRule); certificates that
--- the checker computes (NumberedPositions, StageTest, StageListSound, ClosedTableTest).
+-- what the book does (BookBySingles), closed tables (ClosedTablePromises), rules (LostBreaksRules, TableRule); a cell with more
+-- operation lines simulates at least as much (AddedOperations); certificates that the checker computes (NumberedPositions,
+-- StageTest, StageListSound, ClosedTableTest).
 pub mod Machine
 pub mod LostNeverHeld
 pub mod ClosedSet
@@ -15,6 +16,7 @@ pub mod CarryInParts
 pub mod SinglePaths
 pub mod StepIsPath
 pub mod JointIsSingle
+pub mod AddedOperations
 pub mod BookBySingles
 pub mod ClosedTablePromises
 pub mod LostBreaksRules

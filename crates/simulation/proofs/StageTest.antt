@@ -1,7 +1,7 @@
 -- A stage for each position, and the test of a list of stages that the checker computes: at a position of a stage above 0 no
 -- silent move raises the stage or ends it, and every carry has an outcome that lowers it. For recipes of one line to a point.
 -- Assumes nothing.
-use mathlib.Core.Path.{_≡_, refl, sym, ap, _∙_}
+use mathlib.Core.Path.{_≡_, sym, ap, _∙_}
 use mathlib.Core.Logic.{_⊎_, inl, inr, ⊎-elim}
 use mathlib.Core.Bool.{Bool, true, false, not, _&&_, _||_, true≢false}
 use mathlib.Core.List.{List}
@@ -12,7 +12,7 @@ use lib.Dec.{eqb, ltb, leb}
 use borrow.Author.Tests.{eqb-true, eqb-false, not-true}
 use Rattle.refusals.specs.Search.{allBelow}
 use Rattle.refusals.proofs.EveryBelow.{all-at}
-use Rattle.refusals.proofs.Verdicts.{and-left, and-right}
+use Rattle.refusals.proofs.Verdicts.{and-left, and-right, or-cases}
 use Rattle.cell.specs.declared.Cell.{Cell}
 use Rattle.recipe.specs.declared.Recipe.{Recipe}
 use Rattle.positions.specs.declared.Configuration.{Configuration}
@@ -80,10 +80,6 @@ pub record Staged (c : Cell) (r : Recipe) (z : Sizes) (stages : List ℕ) (p : �
       → effect c r p a e ≡ carried b d
       → (lower (stageOf z stages (thenOf r p) b) (stageOf z stages p a) ≡ true)
       ⊎ ((kindOf r p ≡ 2) × (lower (stageOf z stages (elseOf r p) d) (stageOf z stages p a) ≡ true))
-
-or-cases : (x y : Bool) → (x || y) ≡ true → (x ≡ true) ⊎ (y ≡ true)
-or-cases true y e = inl refl
-or-cases false y e = inr e
 
 module _ (c : Cell) (r : Recipe) (z : Sizes) (stages : List ℕ) (p : ℕ) (a : Configuration) where
   -- an entry in the stated form is among those that are tested

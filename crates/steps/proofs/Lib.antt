@@ -2,8 +2,8 @@
 -- the crates above cite: single moves are joint steps (OpenSteps, SingleMakesJoint, with OnlyLines, ReadyLines, PortCounts,
 -- SilentLines and CarryLines below them), such joint steps have entries (SilentEntries, CarryEntries, with Letters and
 -- EqualChoices below them), what a move does by cases and by its lines alone (Effects, SingleEffects, SingleMoves, EntryForms),
--- silent moves do not depend on the point (OpenByKind), the code makes what the entry makes (MadeByKind), and moves stay in range
--- (MovesStayInRange).
+-- silent moves do not depend on the point (OpenByKind), the code makes what the entry makes (MadeByKind), moves stay in range
+-- (MovesStayInRange), and a cell with more operation lines takes the same steps (AddedOperations).
 mod LetterDigits
 pub mod LoopTurns
 pub mod EntryTests
@@ -28,3 +28,4 @@ pub mod SilentEntries
 pub mod CarryEntries
 pub mod OpenByKind
 pub mod MovesStayInRange
+pub mod AddedOperations

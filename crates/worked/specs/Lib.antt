@@ -6,3 +6,5 @@ pub mod LeastSet
 pub mod Limited
 pub mod LimitedPlans
 pub mod LimitFiles
+pub mod Installed
+pub mod InstalledPlans

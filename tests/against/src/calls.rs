@@ -3,16 +3,28 @@
 
 use crate::{c, RunRecord};
 use independent::{
-    cell_of_bytes, check, plan, recipe_of_bytes, run_bytes, run_of_bytes, Run, RUN_BYTES,
+    cell_of_bytes, check, install, plan, recipe_of_bytes, run_bytes, run_of_bytes, Run, RUN_BYTES,
 };
 
-/// The six calls as the C interface has them.
+/// How many bytes a line has in the list of an install call.
+pub const LISTED_BYTES: usize = 4;
+
+/// The seven calls as the C interface has them.
 pub trait Calls {
     /// The first refusal of the rules 3 to 13, or 0.
     fn check(cell: &[u8], recipe: &[u8]) -> u32;
 
     /// The refusal, or 0; the table is filled if that is 0 or 15.
     fn plan(cell: &[u8], recipe: &[u8], table: &mut [u32], scratch: &mut [u8]) -> u32;
+
+    /// Refusal × 2^32 + count; as many whole lines as fit are put into the list.
+    fn install(
+        cell: &[u8],
+        recipe: &[u8],
+        table: &mut [u32],
+        scratch: &mut [u8],
+        list: &mut [u8],
+    ) -> u64;
 
     /// 14 for a buffer that is too short, or 0 with the fresh run in it.
     fn fresh(run: &mut [u8]) -> u32;
@@ -73,6 +85,29 @@ impl Calls for Library {
                 table.len(),
                 scratch.as_mut_ptr(),
                 scratch.len(),
+            )
+        }
+    }
+
+    fn install(
+        cell: &[u8],
+        recipe: &[u8],
+        table: &mut [u32],
+        scratch: &mut [u8],
+        list: &mut [u8],
+    ) -> u64 {
+        unsafe {
+            c::cellplan_install(
+                cell.as_ptr(),
+                cell.len(),
+                recipe.as_ptr(),
+                recipe.len(),
+                table.as_mut_ptr(),
+                table.len(),
+                scratch.as_mut_ptr(),
+                scratch.len(),
+                list.as_mut_ptr(),
+                list.len(),
             )
         }
     }
@@ -138,6 +173,22 @@ impl Calls for Independent {
     fn plan(cell: &[u8], recipe: &[u8], table: &mut [u32], scratch: &mut [u8]) -> u32 {
         let (cell, recipe) = (cell_of_bytes(cell), recipe_of_bytes(recipe));
         plan(&cell, &recipe, table, scratch.len()).into()
+    }
+
+    fn install(
+        cell: &[u8],
+        recipe: &[u8],
+        table: &mut [u32],
+        scratch: &mut [u8],
+        list: &mut [u8],
+    ) -> u64 {
+        let (cell, recipe) = (cell_of_bytes(cell), recipe_of_bytes(recipe));
+        let answer = install(&cell, &recipe, table.len(), scratch.len());
+        let lines = list.chunks_exact_mut(LISTED_BYTES);
+        for (line, process) in lines.zip(&answer.processes) {
+            line.copy_from_slice(process);
+        }
+        (u64::from(answer.refusal) << 32) + answer.processes.len() as u64
     }
 
     fn fresh(run: &mut [u8]) -> u32 {

@@ -4,10 +4,13 @@ use crate::generate::{record, Generate, Rows};
 use crate::pairs::{limits_of, Pair};
 use crate::random::Random;
 use crate::{CellFile, Format, RecipeFile};
-use independent::{MOST_LINES, MOST_RESOURCES};
+use independent::{CELL_BYTES, MOST_LINES, MOST_RESOURCES};
+
+/// The records of a cell and a recipe.
+pub type Records = (Vec<u8>, Vec<u8>);
 
 /// The records of a pair: mostly as they are, else with some damage.
-pub fn seeded_records(pair: &Pair, random: &mut Random) -> (Vec<u8>, Vec<u8>) {
+pub fn seeded_records(pair: &Pair, random: &mut Random) -> Records {
     let mut records = (pair.cell_bytes(), pair.recipe_bytes());
     match random.below(20) {
         0 | 1 => records.0 = broken_cell(pair, random),
@@ -39,6 +42,31 @@ pub fn seeded_records(pair: &Pair, random: &mut Random) -> (Vec<u8>, Vec<u8>) {
         _ => {}
     }
     records
+}
+
+/// The bench example's records with more and more damage; the cell may have other lines behind its own. Each
+/// step breaks a rule before all those that were broken so far, which stands beside it.
+pub fn ever_more_damaged((mut cell, mut recipe): Records) -> Vec<(Records, u32)> {
+    let mut steps = vec![];
+    // Recipe line 0 with a then that isn't there, without parts, of no kind; then no lines.
+    for (at, number, refusal) in [(6, 5, 12), (5, 0, 10), (2, 3, 4), (0, 0, 3)] {
+        recipe[at] = number;
+        steps.push(((cell.clone(), recipe.clone()), refusal));
+    }
+    // A limit of a resource that isn't there; cell line 2 with another port; line 4 of a resource with
+    // a gap before it; a limit out of range; line 2 of no act; then too many lines.
+    for (at, number, refusal) in [
+        (CELL_BYTES - 1, 7, 20),
+        (14, 6, 6),
+        (21, 3, 5),
+        (CELL_BYTES - MOST_RESOURCES, 9, 4),
+        (13, 4, 4),
+        (0, 65, 3),
+    ] {
+        cell[at] = number;
+        steps.push(((cell.clone(), recipe.clone()), refusal));
+    }
+    steps
 }
 
 /// A cell record as `seeded_records` has it, but more often with some damage.
@@ -101,21 +129,29 @@ fn change_limits(record: &mut [u8], random: &mut Random) {
 
 /// Changes the count or some other byte, or all of them, or what stands past the count.
 fn damage_bytes<F: Format>(record: &mut [u8], random: &mut Random) {
-    let lines = 1 + usize::from(record[0]) * F::GREATEST.len();
-    let all_lines = 1 + MOST_LINES * F::GREATEST.len();
     match random.below(8) {
         0 => record[0] = random.choose(&[0, 1, 63, 64, 65, 128, 255]),
         1 => record[0] = record[0].wrapping_add(random.choose(&[1, 255])),
         2 => record[0] = random.byte(),
         3 => record[random.below(F::RECORD_BYTES)] = random.byte(),
         4 => record.fill_with(|| random.byte()),
-        // Past the line count everything counts for nothing.
-        5 => record[lines..all_lines].fill_with(|| random.byte()),
+        5 => fill_past_lines::<F>(record, random),
         _ => {
             let telling = [0, 1, 2, 3, 4, 5, 6, 7, 8, 15, 16, 63, 64, 255];
-            record[random.below(lines)] = random.choose(&telling);
+            record[random.below(lines_end::<F>(record))] = random.choose(&telling);
         }
     }
+}
+
+/// Puts any bytes where everything counts for nothing: past the line count.
+pub fn fill_past_lines<F: Format>(record: &mut [u8], random: &mut Random) {
+    let (lines, all_lines) = (lines_end::<F>(record), 1 + MOST_LINES * F::GREATEST.len());
+    record[lines..all_lines].fill_with(|| random.byte());
+}
+
+/// Where the lines of a record end that count.
+fn lines_end<F: Format>(record: &[u8]) -> usize {
+    1 + usize::from(record[0]) * F::GREATEST.len()
 }
 
 /// Makes a record too short, or longer than it has to be.

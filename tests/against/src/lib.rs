@@ -5,6 +5,7 @@
 pub mod calls;
 pub mod damage;
 pub mod generate;
+pub mod installs;
 pub mod lists;
 pub mod pairs;
 pub mod plans;
@@ -61,6 +62,18 @@ mod c {
             scratch: *mut u8,
             scratch_length: usize,
         ) -> u32;
+        pub fn cellplan_install(
+            cell: *const u8,
+            cell_length: usize,
+            recipe: *const u8,
+            recipe_length: usize,
+            table: *mut u32,
+            table_entries: usize,
+            scratch: *mut u8,
+            scratch_length: usize,
+            list: *mut u8,
+            list_length: usize,
+        ) -> u64;
         pub fn cellplan_fresh(run: *mut u8, run_length: usize) -> u32;
         pub fn cellplan_next_move(
             cell: *const u8,

@@ -5,8 +5,8 @@ use crate::generate::{self, Rows, DO, END, IN, INTERNAL, OPERATION, OUT, TEST};
 use crate::random::Random;
 use crate::{CellFile, RecipeFile};
 use independent::{
-    cell_bytes, check_cell, entry_of, is_open, kind_of, letters_of, recipe_bytes, Cell,
-    Configuration, Recipe, Run, Sizes, CELL_BYTES, MOST_RESOURCES, NO_LIMIT,
+    cell_bytes, check_cell, entry_of, is_open, kind_of, letters_of, likely_pair, limited_pair,
+    recipe_bytes, Cell, Configuration, Recipe, Run, Sizes, CELL_BYTES, MOST_RESOURCES, NO_LIMIT,
 };
 use independent::{CARRY, INTERNAL as INTERNAL_MOVE, STAY, TRANSFER};
 
@@ -143,6 +143,17 @@ pub fn good_pair(most_positions: u64, random: &mut Random) -> Pair {
         },
         recipe: recipe_rows(&shape, &operations, random),
     }
+}
+
+/// A cell and a recipe of at most this many positions, many of which are realisable. Every other pair has
+/// limits.
+pub fn either_pair(
+    n: usize,
+    most_positions: u64,
+    source: &mut independent::Random,
+) -> (Cell, Recipe) {
+    let pair = [likely_pair, limited_pair][n % 2];
+    pair(most_positions, source)
 }
 
 /// Limits for so many resources, most of them small.

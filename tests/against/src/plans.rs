@@ -2,16 +2,19 @@
 //! that it owes.
 
 use crate::calls::{Calls, Library};
+use crate::damage::{ever_more_damaged, seeded_records};
+use crate::pairs::Pair;
 use crate::random::Random;
 use crate::rounds::{accepted, show_records};
 use crate::TOO_SHORT;
 use independent::{cell_of_bytes, check, entry_of, judge, recipe_of_bytes};
 use std::fmt::{Display, Formatter, Result};
 
-/// What lies on either side of a lent table and a lent scratch, and belongs to neither.
+/// What lies on either side of what is lent, and doesn't belong to it.
 const MARGIN: usize = 8;
 
 /// What a plan call is handed, but for the content of its table and scratch, which is any at all.
+#[derive(Clone)]
 pub struct Handed {
     pub cell: Vec<u8>,
     pub recipe: Vec<u8>,
@@ -38,38 +41,100 @@ pub struct Planned {
 }
 
 impl Handed {
+    /// Two records that pass the rules before 14, with a table and a scratch that are just long enough.
+    pub fn of(cell: Vec<u8>, recipe: Vec<u8>) -> Handed {
+        let (_, _, sizes) = accepted(&cell, &recipe).expect("the records are accepted");
+        let positions = sizes.positions as usize;
+        Handed {
+            cell,
+            recipe,
+            entries: positions,
+            scratch: positions,
+        }
+    }
+
+    /// The records of a pair that passes the rules before 14, with a table or a scratch that is too short.
+    pub fn too_short(cell: Vec<u8>, recipe: Vec<u8>, random: &mut Random) -> Handed {
+        let mut handed = Handed::of(cell, recipe);
+        [handed.entries, handed.scratch] = short_lengths(handed.entries, random);
+        handed
+    }
+
+    /// The records of a pair after some damage. Those that are accepted get what they need, but not if
+    /// there are more positions than this.
+    pub fn damaged(pair: &Pair, most_positions: usize, random: &mut Random) -> Handed {
+        let (cell, recipe) = seeded_records(pair, random);
+        let [entries, scratch] = match accepted(&cell, &recipe) {
+            Some((_, _, sizes)) if sizes.positions as usize <= most_positions => {
+                [sizes.positions as usize; 2]
+            }
+            Some((_, _, sizes)) => short_lengths(sizes.positions as usize, random),
+            None => [(); 2].map(|()| random.below(100)),
+        };
+        // Not more than is lent to the others, for the content is made up each time.
+        Handed {
+            cell,
+            recipe,
+            entries: entries.min(most_positions),
+            scratch: scratch.min(most_positions),
+        }
+    }
+
+    /// The bench example with more and more damage, in all that it is handed. Each step breaks a rule before
+    /// all those that were broken so far, which stands beside it.
+    pub fn ever_more_damaged(mut self) -> Vec<(Handed, u32)> {
+        self.scratch = 89;
+        let mut steps = vec![(self.clone(), 14)];
+        // Cell lines 1 and 4 end in state 7, and recipe line 3 takes part 7 too.
+        self.cell[1 + 5 + 4] = 7;
+        self.cell[1 + 4 * 5 + 4] = 7;
+        self.recipe[1 + 3 * 7 + 3] = 129;
+        steps.push((self.clone(), 13));
+        let records = (self.cell.clone(), self.recipe.clone());
+        for ((cell, recipe), refusal) in ever_more_damaged(records) {
+            let handed = Handed {
+                cell,
+                recipe,
+                ..self
+            };
+            steps.push((handed, refusal));
+        }
+        steps
+    }
+
     /// Makes the call, and wants of it all that the independent program can say: the refusal; if that
     /// is neither 0 nor 15, nothing changed; else a table that the judge allows, and no entry past it
     /// changed.
     pub fn plan(&self, random: &mut Random) -> Planned {
-        let mut table = prior_table(self.entries + 2 * MARGIN, random);
-        let mut scratch = prior_scratch(self.scratch + 2 * MARGIN, random);
-        let (kept_table, kept_scratch) = (table.clone(), scratch.clone());
-        let (cell, recipe) = (self.cell.clone(), self.recipe.clone());
-        let refusal = Library::plan(
-            &cell,
-            &recipe,
-            &mut table[MARGIN..][..self.entries],
-            &mut scratch[MARGIN..][..self.scratch],
-        );
-        assert!(
-            cell == self.cell && recipe == self.recipe,
-            "a record has changed\n{self}"
-        );
+        let mut table = Lent::table(self.entries, random);
+        let mut scratch = Lent::bytes(self.scratch, random);
+        let refusal = self
+            .call(|cell, recipe| Library::plan(cell, recipe, table.content(), scratch.content()));
 
         let refused = self.refused_before_15();
         let written = if refused == 0 { self.positions() } else { 0 };
-        assert_kept("table", &table, &kept_table, written, self);
+        table.assert_kept("table", written, self);
         let written = if refused == 0 { self.scratch } else { 0 };
-        assert_kept("scratch", &scratch, &kept_scratch, written, self);
+        scratch.assert_kept("scratch", written, self);
 
-        let table = table[MARGIN..][..self.entries].to_vec();
+        let table = table.content().to_vec();
         let owed = match refused {
             0 => self.judged(&table),
             number => number,
         };
         assert_eq!(refusal, u32::from(owed), "the refusal\n{self}");
         Planned { refusal, table }
+    }
+
+    /// Makes a call on the records, which must leave them as they are.
+    pub(crate) fn call<T>(&self, call: impl FnOnce(&[u8], &[u8]) -> T) -> T {
+        let (cell, recipe) = (self.cell.clone(), self.recipe.clone());
+        let answer = call(&cell, &recipe);
+        assert!(
+            cell == self.cell && recipe == self.recipe,
+            "a record has changed\n{self}"
+        );
+        answer
     }
 
     /// The first refusal of the rules before 15, or 0.
@@ -95,14 +160,61 @@ impl Handed {
     }
 }
 
-/// Wants what was lent as it was, but for the first part of it that may be written.
-fn assert_kept<T: PartialEq>(name: &str, now: &[T], kept: &[T], written: usize, handed: &Handed) {
-    let rest = MARGIN + written;
-    let same = now[..MARGIN] == kept[..MARGIN] && now[rest..] == kept[rest..];
-    assert!(
-        same,
-        "{name}: more than the first {written} has changed\n{handed}"
-    );
+/// What is lent to a call, with a margin on either side, and a copy of how it was.
+pub(crate) struct Lent<T> {
+    now: Vec<T>,
+    kept: Vec<T>,
+}
+
+impl Lent<u32> {
+    pub(crate) fn table(entries: usize, random: &mut Random) -> Lent<u32> {
+        Lent::of(prior_table(entries + 2 * MARGIN, random))
+    }
+}
+
+impl Lent<u8> {
+    pub(crate) fn bytes(length: usize, random: &mut Random) -> Lent<u8> {
+        Lent::of(prior_bytes(length + 2 * MARGIN, random))
+    }
+}
+
+impl<T: Clone + PartialEq> Lent<T> {
+    fn of(content: Vec<T>) -> Lent<T> {
+        Lent {
+            kept: content.clone(),
+            now: content,
+        }
+    }
+
+    /// The part that is lent.
+    pub(crate) fn content(&mut self) -> &mut [T] {
+        let end = self.now.len() - MARGIN;
+        &mut self.now[MARGIN..end]
+    }
+
+    /// Wants what was lent as it was, but for the first part of it that may be written.
+    pub(crate) fn assert_kept(&self, name: &str, written: usize, handed: &impl Display) {
+        let Lent { now, kept } = self;
+        let rest = MARGIN + written;
+        let same = now[..MARGIN] == kept[..MARGIN] && now[rest..] == kept[rest..];
+        assert!(
+            same,
+            "{name}: more than the first {written} has changed\n{handed}"
+        );
+    }
+}
+
+/// Lengths of a table and a scratch of which one is too short at least, most times by one.
+fn short_lengths(positions: usize, random: &mut Random) -> [usize; 2] {
+    let less = |random: &mut Random| match random.below(3) {
+        0 => random.below(positions),
+        _ => positions - 1,
+    };
+    match random.below(3) {
+        0 => [less(random), positions + random.below(9)],
+        1 => [positions + random.below(9), less(random)],
+        _ => [less(random), less(random)],
+    }
 }
 
 /// What a table may hold before it is planned: anything, entries without a plan, bits that no entry
@@ -119,8 +231,8 @@ fn prior_table(length: usize, random: &mut Random) -> Vec<u32> {
     (0..length).map(|_| entry(random)).collect()
 }
 
-/// What a scratch may hold before: any bytes, marks, or the same throughout.
-fn prior_scratch(length: usize, random: &mut Random) -> Vec<u8> {
+/// What a scratch or a list may hold before: any bytes, marks, or the same throughout.
+fn prior_bytes(length: usize, random: &mut Random) -> Vec<u8> {
     let style = random.below(3);
     let same = random.choose(&[0, 1, 255]);
     let byte = |random: &mut Random| match style {

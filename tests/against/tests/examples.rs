@@ -12,6 +12,8 @@ const NEST_CELL: &str = include_str!("../../../examples/nest/cell.csv");
 const NEST_RECIPE: &str = include_str!("../../../examples/nest/recipe.csv");
 const NEST_LIMITS: &str = include_str!("../../../examples/nest/limits.csv");
 const ONE_NEST: &str = include_str!("../../../examples/nest/one_nest.csv");
+const GAP_CELL: &str = include_str!("../../../examples/gap/cell.csv");
+const GAP_RECIPE: &str = include_str!("../../../examples/gap/recipe.csv");
 
 fn root() -> &'static Path {
     Path::new(env!("CARGO_MANIFEST_DIR"))
@@ -60,6 +62,12 @@ fn follow_table() -> &'static Path {
 fn line_screen() -> &'static Path {
     static PROGRAM: OnceLock<PathBuf> = OnceLock::new();
     PROGRAM.get_or_init(|| compile("line_screen"))
+}
+
+/// The program that lists processes to install, compiled once for all tests.
+fn list_processes() -> &'static Path {
+    static PROGRAM: OnceLock<PathBuf> = OnceLock::new();
+    PROGRAM.get_or_init(|| compile("install"))
 }
 
 fn expected(name: &str) -> String {
@@ -146,6 +154,17 @@ fn screen_nest(name: &str, limits: &str, outcomes: &[&str]) {
     compare(name, command.arg("-l").args(files).args(outcomes));
 }
 
+/// Lists the processes that a cell lacks, with limits where they are given.
+fn install(name: &str, [cell, recipe]: [&str; 2], limits: Option<&str>) {
+    let files = [("cell.csv", Some(cell)), ("recipe.csv", Some(recipe))];
+    let folder = folder(name, &[&files[..], &[("limits.csv", limits)]].concat());
+    let mut command = Command::new(list_processes());
+    if limits.is_some() {
+        command.arg("-l").arg(folder.join("limits.csv"));
+    }
+    compare(name, command.args(files.map(|(file, _)| folder.join(file))));
+}
+
 #[test]
 fn the_bench_example() {
     check("bench", Some(BENCH_CELL), Some(BENCH_RECIPE));
@@ -162,6 +181,7 @@ fn the_scripts_build_and_run_the_examples() {
         ("screen", &[], "screen"),
         ("run", &nest, "nest"),
         ("screen", &limited, "screen_nest"),
+        ("install", &[], "install"),
     ] {
         let output = Command::new(root().join("examples/c").join(script))
             .args(arguments)
@@ -296,4 +316,39 @@ fn one_nest_is_too_few_for_two_parts() {
 #[test]
 fn limits_that_the_screen_refuses() {
     screen_nest("screen_limits", "resource,most\n1,2\n0,1\n", &["0"]);
+}
+
+#[test]
+fn the_bench_example_that_lacks_a_process() {
+    assert_eq!(GAP_CELL, BENCH_CELL.replace("1,1,1,2,2\n", ""));
+    assert_eq!(GAP_RECIPE, BENCH_RECIPE);
+    install("install", [GAP_CELL, GAP_RECIPE], None);
+    let cell = BENCH_CELL.replace("0,0,1,1,1\n", "");
+    install("install_two", [&cell, BENCH_RECIPE], None);
+}
+
+#[test]
+fn a_process_where_a_nest_is_full() {
+    let cell = "resource,from,act,arg,to\n0,0,1,1,0\n1,0,1,3,0\n";
+    let recipe = NEST_RECIPE.replace("2,1,2,3,0,3,0", "2,0,0,0,0,0,0");
+    let recipe = recipe.replace("3,0,0,0,0,0,0\n", "");
+    let limits = "resource,most\n0,1\n";
+    install("install_nest", [cell, &recipe], Some(limits));
+    install("install_built", [cell, &recipe], None);
+}
+
+#[test]
+fn no_process_helps_a_station_with_one_nest() {
+    let files = [NEST_CELL, NEST_RECIPE];
+    install("install_none", files, Some(ONE_NEST));
+}
+
+#[test]
+fn what_is_refused_gets_no_list() {
+    let cell = BENCH_CELL.replace("1,0,2,5,1", "1,0,2,6,1");
+    install("install_port", [&cell, BENCH_RECIPE], None);
+    let limits = "resource,most\n2,1\n";
+    install("install_limits", [GAP_CELL, GAP_RECIPE], Some(limits));
+    let full = format!("{GAP_CELL}{}", "0,0,0,0,0\n".repeat(60));
+    install("install_full", [&full, GAP_RECIPE], None);
 }

@@ -10,7 +10,7 @@ use against::rounds::accepted;
 use against::{CellFile, Format, RecipeFile};
 use independent::{
     cell_bytes, dense_pair, long_ways_pair, mixed_pair, recipe_bytes, Cell, Recipe, Sizes,
-    CELL_BYTES, MOST_POSITIONS, MOST_RESOURCES, RUN_BYTES,
+    MOST_POSITIONS, MOST_RESOURCES, RUN_BYTES,
 };
 
 const BENCH_CELL: &[u8] = include_bytes!("../../../examples/bench/cell.csv");
@@ -136,48 +136,17 @@ fn the_rules_are_tried_in_their_order() {
     let mut expect = |handed: &Handed, refusal: u32| {
         assert_eq!(handed.plan(&mut random).refusal, refusal, "{handed}");
     };
-    // Each change breaks a rule before all those that were broken so far. First the test at point 1
-    // wants an operation that the cell hasn't.
+    // First the test at point 1 wants an operation that the cell hasn't.
     handed.recipe[1 + 7 + 2] = 9;
     expect(&handed, 15);
-    handed.scratch = 89;
-    expect(&handed, 14);
-    // Cell lines 1 and 4 end in state 7, and recipe line 3 takes part 7 too.
-    handed.cell[1 + 5 + 4] = 7;
-    handed.cell[1 + 4 * 5 + 4] = 7;
-    handed.recipe[1 + 3 * 7 + 3] = 129;
-    expect(&handed, 13);
-    // Recipe line 0 with a then that isn't there, without parts, of no kind; then no lines.
-    for (at, number, refusal) in [(6, 5, 12), (5, 0, 10), (2, 3, 4), (0, 0, 3)] {
-        handed.recipe[at] = number;
-        expect(&handed, refusal);
-    }
-    // A limit of a resource that isn't there; cell line 2 with another port; line 4 of a resource with
-    // a gap before it; a limit out of range; line 2 of no act; then too many lines.
-    for (at, number, refusal) in [
-        (CELL_BYTES - 1, 7, 20),
-        (14, 6, 6),
-        (21, 3, 5),
-        (CELL_BYTES - MOST_RESOURCES, 9, 4),
-        (13, 4, 4),
-        (0, 65, 3),
-    ] {
-        handed.cell[at] = number;
+    for (handed, refusal) in handed.ever_more_damaged() {
         expect(&handed, refusal);
     }
 }
 
 /// Plans a pair with a table and a scratch that are just long enough.
 fn plan_pair(pair: &Pair) -> Planned {
-    let (cell, recipe) = (pair.cell_bytes(), pair.recipe_bytes());
-    let (_, _, sizes) = accepted(&cell, &recipe).expect("the pair is accepted");
-    let positions = sizes.positions as usize;
-    let handed = Handed {
-        cell,
-        recipe,
-        entries: positions,
-        scratch: positions,
-    };
+    let handed = Handed::of(pair.cell_bytes(), pair.recipe_bytes());
     handed.plan(&mut Random::new(10))
 }
 

@@ -2,6 +2,7 @@
 //! everything near to the bench example against the independent program.
 
 use against::calls::{Calls, Independent, Library};
+use against::damage::ever_more_damaged;
 use against::generate::{self, Rows};
 use against::pairs::{full_pair, limits_of, Pair, THREE_GIVEN, TWO_GIVEN};
 use against::rounds::{accepted, compare, Round, Table};
@@ -126,7 +127,7 @@ fn rules_from_14_on_are_tried_in_their_order() {
 
 #[test]
 fn the_cell_is_judged_before_the_recipe_and_both_before_the_rest() {
-    let (mut cell, mut recipe, table) = bench();
+    let (cell, recipe, table) = bench();
     let mut gone = bench_run(72);
     gone[0] = 5;
     let answers = |cell: &[u8], recipe: &[u8], number: u32| {
@@ -136,23 +137,8 @@ fn the_cell_is_judged_before_the_recipe_and_both_before_the_rest() {
         assert_eq!(place, number * 256 + 255);
         assert_eq!(Library::check(cell, recipe), number);
     };
-    // Recipe line 0 with a then that isn't there, without parts, of no kind; then no lines.
-    for (at, number, refusal) in [(6, 5, 12), (5, 0, 10), (2, 3, 4), (0, 0, 3)] {
-        recipe[at] = number;
-        answers(&cell, &recipe, refusal);
-    }
-    // A limit of a resource that isn't there; cell line 2 with another port; line 4 of a resource with
-    // a gap before it; a limit out of range; line 2 of no act; then too many lines.
-    for (at, number, refusal) in [
-        (CELL_BYTES - 1, 7, 20),
-        (14, 6, 6),
-        (21, 3, 5),
-        (CELL_BYTES - MOST_RESOURCES, 9, 4),
-        (13, 4, 4),
-        (0, 65, 3),
-    ] {
-        cell[at] = number;
-        answers(&cell, &recipe, refusal);
+    for (records, refusal) in ever_more_damaged((cell, recipe)) {
+        answers(&records.0, &records.1, refusal);
     }
 }
 

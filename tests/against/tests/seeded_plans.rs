@@ -2,16 +2,14 @@
 //! and every kind of damage to them; and lists of calls on the planned tables against the book.
 
 use against::calls::{Calls, Library};
-use against::damage::seeded_records;
 use against::lists::{self, Form, List};
-use against::pairs::{self, limits_leave_range, unlimited, Pair, NO_LIMITS};
+use against::pairs::{self, either_pair, limits_leave_range, unlimited, Pair, NO_LIMITS};
 use against::plans::{Handed, Planned};
 use against::random::Random;
-use against::rounds::accepted;
 use independent::{
-    cell_bytes, cell_of_bytes, dense_pair, is_overfull, joint_choices, judge, kind_of, likely_pair,
-    limited_pair, long_ways_pair, mixed_pair, odometer_pair, plan, recipe_bytes, Book, Cell,
-    Recipe, Sizes, FEW_JOINT_CHOICES, MOST_POSITIONS, STAY,
+    cell_bytes, cell_of_bytes, dense_pair, is_overfull, joint_choices, judge, kind_of,
+    long_ways_pair, mixed_pair, odometer_pair, plan, recipe_bytes, Book, Cell, Recipe, Sizes,
+    FEW_JOINT_CHOICES, MOST_POSITIONS, STAY,
 };
 
 /// Small pairs of a cell and a recipe that are planned. Each is also planned with too short a table or
@@ -330,29 +328,10 @@ fn some_position(table: &[u32], random: &mut Random) -> usize {
     *found.unwrap_or(&positions[0])
 }
 
-/// Lengths of a table and a scratch of which one is too short at least, most times by one.
-fn short_lengths(positions: usize, random: &mut Random) -> [usize; 2] {
-    let less = |random: &mut Random| match random.below(3) {
-        0 => random.below(positions),
-        _ => positions - 1,
-    };
-    match random.below(3) {
-        0 => [less(random), positions + random.below(9)],
-        1 => [positions + random.below(9), less(random)],
-        _ => [less(random), less(random)],
-    }
-}
-
 /// Plans with a table or a scratch that is too short.
 fn plan_short((cell, recipe): &(Cell, Recipe), random: &mut Random, seen: &mut Seen) {
-    let positions = Sizes::of(cell, recipe).positions as usize;
-    let [entries, scratch] = short_lengths(positions, random);
-    let handed = Handed {
-        cell: cell_bytes(cell).to_vec(),
-        recipe: recipe_bytes(recipe).to_vec(),
-        entries,
-        scratch,
-    };
+    let (cell, recipe) = (cell_bytes(cell).to_vec(), recipe_bytes(recipe).to_vec());
+    let handed = Handed::too_short(cell, recipe, random);
     let refusal = handed.plan(random).refusal;
     assert_eq!(refusal, 14, "{handed}");
     seen.refusals[14] += 1;
@@ -360,31 +339,11 @@ fn plan_short((cell, recipe): &(Cell, Recipe), random: &mut Random, seen: &mut S
 
 /// Plans after some damage to the records.
 fn plan_damaged(pair: &Pair, random: &mut Random, seen: &mut Seen) {
-    let (cell, recipe) = seeded_records(pair, random);
-    let [entries, scratch] = match accepted(&cell, &recipe) {
-        Some((_, _, sizes)) if sizes.positions as usize <= MOST_DAMAGED => {
-            [sizes.positions as usize; 2]
-        }
-        Some((_, _, sizes)) => short_lengths(sizes.positions as usize, random),
-        None => [(); 2].map(|()| random.below(100)),
-    };
-    // Not more than is lent to the others, for the content is made up each time.
-    let handed = Handed {
-        cell,
-        recipe,
-        entries: entries.min(MOST_DAMAGED),
-        scratch: scratch.min(MOST_DAMAGED),
-    };
+    let handed = Handed::damaged(pair, MOST_DAMAGED, random);
     let refusal = handed.plan(random).refusal;
     seen.refusals[refusal as usize] += 1;
     let cell = cell_of_bytes(&handed.cell);
     seen.limits_past_range += usize::from(limits_leave_range(&cell));
-}
-
-/// A seeded pair, every other one with limits.
-fn either_pair(n: usize, most: u64, source: &mut independent::Random) -> (Cell, Recipe) {
-    let pair = [likely_pair, limited_pair][n % 2];
-    pair(most, source)
 }
 
 #[test]

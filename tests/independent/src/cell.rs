@@ -59,7 +59,7 @@ impl Cell {
     };
 
     /// Line `n` in the order of the columns.
-    fn line(&self, n: usize) -> [u8; 5] {
+    pub(crate) fn line(&self, n: usize) -> [u8; 5] {
         [
             self.resource[n],
             self.from[n],

@@ -6,7 +6,7 @@ mod cell_lines;
 mod great;
 mod walk;
 
-pub use great::{dense_pair, long_ways_pair, mixed_pair, odometer_pair};
+pub use great::{dense_pair, gap_pair, long_ways_pair, mixed_pair, odometer_pair};
 
 use crate::cell::{cell_bytes, cell_of_bytes, Cell, NO_LIMIT};
 use crate::random::Random;

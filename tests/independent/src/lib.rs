@@ -1,7 +1,8 @@
-//! An independent program for the cell, recipe and limits files, the planner, the run over a stored
-//! table, the book that the run is held against and the program `walk`, written from their description
-//! alone; with a judge of planned tables and a generator of cells and recipes. The tests compare the
-//! proved library and program with it, and the benchmark measures against it.
+//! An independent program for the cell, recipe and limits files, the planner, the list of processes to
+//! install, the run over a stored table, the book that the run is held against and the program `walk`,
+//! written from their description alone; with a judge of planned tables and a generator of cells and
+//! recipes. The tests compare the proved library and program with it, and the benchmark measures against
+//! it.
 
 mod book;
 mod cell;
@@ -9,6 +10,7 @@ mod entry;
 #[cfg(test)]
 mod fixtures;
 mod generate;
+mod install;
 mod judge;
 mod limits;
 mod plan;
@@ -28,7 +30,11 @@ pub use cell::{
 };
 pub use entry::{entry_of, is_open, kind_of, letters_of, CARRY, INTERNAL, STAY, TRANSFER};
 pub use generate::{
-    dense_pair, likely_pair, limited_pair, long_ways_pair, mixed_pair, odometer_pair,
+    dense_pair, gap_pair, likely_pair, limited_pair, long_ways_pair, mixed_pair, odometer_pair,
+};
+pub use install::{
+    candidates, install, missing_processes, realisable_by_joint_steps, realisable_by_single_moves,
+    Install, Process,
 };
 pub use judge::{judge, Fault, FEW_JOINT_CHOICES};
 pub use limits::{is_overfull, read_limits, LIMITS_NAMES};

@@ -75,6 +75,13 @@ pub const GROUPS: &[Group] = &[
         )],
     },
     Group {
+        title: "the install call",
+        roots: &[Root::Contracts(
+            "crates/install/src/lib.rt",
+            Calls::Named(&["install"]),
+        )],
+    },
+    Group {
         title: "the C interface",
         roots: &[Root::Contracts("crates/capi/src/lib.rt", Calls::External)],
     },

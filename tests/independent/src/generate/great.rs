@@ -3,6 +3,7 @@
 
 use super::{cell_of_lines, recipe_of_lines, walk, CellLine, RecipeLine, Shape, END_LINE};
 use crate::cell::{Cell, IN, INTERNAL, OPERATION, OUT};
+use crate::install::realisable_by_single_moves;
 use crate::random::Random;
 use crate::recipe::{Recipe, DO, TEST};
 use crate::run::check;
@@ -51,6 +52,31 @@ pub fn mixed_pair(lines: usize, silent_moves: usize, random: &mut Random) -> (Ce
             return (cell, recipe);
         }
     }
+}
+
+/// A mixed pair that lacks a process: of a cell of one line more, the first operation line that the recipe
+/// can't do without is left out. There are as many positions as before.
+pub fn gap_pair(lines: usize, silent_moves: usize, random: &mut Random) -> (Cell, Recipe) {
+    loop {
+        let (whole, recipe) = mixed_pair(lines + 1, silent_moves, random);
+        let operations = (0..=lines).filter(|&n| whole.act[n] == OPERATION);
+        let mut without = operations.map(|n| without_line(&whole, n));
+        let lacks = |cell: &Cell| {
+            check(cell, &recipe) == 0
+                && Sizes::of(cell, &recipe).positions == MOST_POSITIONS
+                && !realisable_by_single_moves(cell, &recipe)
+        };
+        if let Some(cell) = without.find(lacks) {
+            return (cell, recipe);
+        }
+    }
+}
+
+/// A cell without limits, without one of its lines.
+fn without_line(cell: &Cell, line: usize) -> Cell {
+    let others = (0..usize::from(cell.count)).filter(|&n| n != line);
+    let lines: Vec<CellLine> = others.map(|n| cell.line(n)).collect();
+    cell_of_lines(&lines)
 }
 
 /// Any lines of three stations with four states. The more silent moves are wanted for a line, the more
@@ -105,6 +131,7 @@ mod tests {
     use crate::book::Book;
     use crate::entry::{kind_of, CARRY, INTERNAL, STAY, TRANSFER};
     use crate::fixtures::planned;
+    use crate::install::missing_processes;
 
     fn sizes_of((cell, recipe): &(Cell, Recipe)) -> Sizes {
         assert_eq!(check(cell, recipe), 0);
@@ -129,6 +156,21 @@ mod tests {
                 assert!(moves.count() > 5_000);
             }
         }
+    }
+
+    #[test]
+    fn gap_pairs_lack_a_process() {
+        for (lines, silent_moves, seed) in [(29, 14, 1), (48, 30, 1), (30, 14, 54)] {
+            let pair = gap_pair(lines, silent_moves, &mut Random(seed));
+            assert_eq!(sizes_of(&pair).positions, MOST_POSITIONS);
+            let (cell, recipe) = pair;
+            assert_eq!(usize::from(cell.count), lines);
+            assert_eq!(walk::silent_steps(&cell).len(), silent_moves);
+            assert_eq!(planned(&cell, &recipe).0, 15);
+        }
+        let (cell, recipe) = gap_pair(30, 14, &mut Random(54));
+        let missing = missing_processes(&cell, &recipe, realisable_by_single_moves);
+        assert_eq!(missing, [[0, 0, 0, 2]]);
     }
 
     #[test]

@@ -7,7 +7,8 @@ use lib.ListN.{length, getD, length-set}
 use lib.Seq.{sets}
 use Rattle.refusals.proofs.TabulatedLists.{tabulate-is}
 use Rattle.capi.specs.Encoding.{rowsOf, cellRow, cellBytes}
-use Rattle.capi.proofs.ByteRows.{RowsPut, rows-length, put-next, put-none, put-more, put-all}
+use Rattle.buffers.proofs.StoredBytes.{put-next}
+use Rattle.capi.proofs.ByteRows.{RowsPut, rows-length, put-none, put-more, put-all}
 use borrow.Author.Needs.{needs}
 use Rattle.capi.proofs.put.put_cell.Statement.{statement}
 use Rattle.capi.proofs.put.put_cell.Tie as tie

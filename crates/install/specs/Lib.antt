@@ -1,0 +1,4 @@
+pub mod Candidates
+pub mod Order
+pub mod Call
+pub mod Search
