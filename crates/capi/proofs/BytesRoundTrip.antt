@@ -15,6 +15,7 @@ use borrow.Author.Tests.{le-ltb}
 use Rattle.refusals.specs.Search.{tabulate}
 use Rattle.refusals.proofs.TabulatedLists.{length-tabulate, tabulate-at, tabulate-is}
 use Rattle.cell.specs.declared.Cell.{Cell}
+use Rattle.cell.proofs.LongerCell.{Columns}
 use Rattle.recipe.specs.declared.Recipe.{Recipe}
 use Rattle.positions.specs.declared.Configuration.{Configuration}
 use Rattle.run.specs.declared.Run.{Run}
@@ -83,11 +84,7 @@ module _ (row : ℕ → List ℕ) (k : ℕ) (wide : (n : ℕ) → length (row n)
 
 -- a cell record as it stands in memory: every column has 64 lines, and there are six limits
 pub record WholeCell (c : Cell) : Type 0 where
-  pub resource : length (c .resource) ≡ 64
-  pub from : length (c .from) ≡ 64
-  pub act : length (c .act) ≡ 64
-  pub arg : length (c .arg) ≡ 64
-  pub to : length (c .to) ≡ 64
+  pub columns : Columns c
   pub limits : length (c .limits) ≡ 6
 
 pub cell-back : (c : Cell) (rest : List ℕ) → WholeCell c → cellFrom (cellBytes c ++ rest) ≡ c
@@ -106,11 +103,11 @@ cell-back c rest whole =
     ∙ List·getD-append limits rest 0 k (omega arith) ∙ tabulate-at (λ k. getD (c .limits) k 0) 6 k low in
     ap cellFrom (append-assoc lines limits rest) ∙ rw (le-ltb _ 327 long) (λ i. record {
       count = c .count;
-      resource = column-back (cellRow c) 5 wide (c .count) behind 0 (c .resource) (omega arith) (whole .resource) (λ n. refl) i;
-      from = column-back (cellRow c) 5 wide (c .count) behind 1 (c .from) (omega arith) (whole .from) (λ n. refl) i;
-      act = column-back (cellRow c) 5 wide (c .count) behind 2 (c .act) (omega arith) (whole .act) (λ n. refl) i;
-      arg = column-back (cellRow c) 5 wide (c .count) behind 3 (c .arg) (omega arith) (whole .arg) (λ n. refl) i;
-      to = column-back (cellRow c) 5 wide (c .count) behind 4 (c .to) (omega arith) (whole .to) (λ n. refl) i;
+      resource = column-back (cellRow c) 5 wide (c .count) behind 0 (c .resource) (omega arith) (whole .columns .resource) (λ n. refl) i;
+      from = column-back (cellRow c) 5 wide (c .count) behind 1 (c .from) (omega arith) (whole .columns .from) (λ n. refl) i;
+      act = column-back (cellRow c) 5 wide (c .count) behind 2 (c .act) (omega arith) (whole .columns .act) (λ n. refl) i;
+      arg = column-back (cellRow c) 5 wide (c .count) behind 3 (c .arg) (omega arith) (whole .columns .arg) (λ n. refl) i;
+      to = column-back (cellRow c) 5 wide (c .count) behind 4 (c .to) (omega arith) (whole .columns .to) (λ n. refl) i;
       limits = tabulate-is (λ k. getD (lines ++ behind) (321 + k) 0) (c .limits) 6 (whole .limits) limit i;
     })
 
@@ -175,11 +172,14 @@ unfolding cellFrom columnOf
 bytes-whole-cell bytes long =
     rw (le-ltb (length bytes) 327 long)
     (record {
-      resource = length-tabulate _ 64;
-      from = length-tabulate _ 64;
-      act = length-tabulate _ 64;
-      arg = length-tabulate _ 64;
-      to = length-tabulate _ 64;
+      columns =
+          record {
+            resource = length-tabulate _ 64;
+            from = length-tabulate _ 64;
+            act = length-tabulate _ 64;
+            arg = length-tabulate _ 64;
+            to = length-tabulate _ 64;
+          };
       limits = length-tabulate _ 6;
     })
 

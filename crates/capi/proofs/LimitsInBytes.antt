@@ -117,10 +117,13 @@ module _ (file entry exit : List ℕ) (answer : ℕ) (told : LimitsAnswered (rea
       whole =
           subst WholeCell (sym (only-limits file (cellFrom entry)))
           (record {
-            resource = held .resource;
-            from = held .from;
-            act = held .act;
-            arg = held .arg;
-            to = held .to;
+            columns =
+                record {
+                  resource = held .columns .resource;
+                  from = held .columns .from;
+                  act = held .columns .act;
+                  arg = held .columns .arg;
+                  to = held .columns .to;
+                };
             limits = six-limits file (cellFrom entry) (held .limits);
           })

@@ -9,17 +9,15 @@ use lib.ListN.{getD}
 use lib.Dec.{eqb}
 use borrow.Author.Tests.{ltb-true, lt-ltb, ne-eqb, not-true}
 use Rattle.refusals.proofs.EveryBelow.{any-none}
-use Rattle.refusals.proofs.TabulatedLists.{tabulate-at}
 use Rattle.refusals.proofs.Verdicts.{and-left, and-right}
 use Rattle.cell.specs.declared.Cell.{Cell}
 use Rattle.cell.specs.declared.OperationLine.{OperationLine}
 use Rattle.recipe.specs.declared.Recipe.{Recipe}
 use Rattle.recipe.proofs.AcceptedRecord.{line-in-range, each-accepts}
 use Rattle.positions.specs.declared.Sizes.{Sizes}
-use Rattle.positions.specs.Sizes.{resourceCount, stateCount, stateCounts, sizesFor, sizesOf}
+use Rattle.positions.specs.Sizes.{resourceCount, stateCount, sizesFor, sizesOf}
 use Rattle.positions.specs.Checked.{Checked}
-use Rattle.positions.proofs.SizeBounds.{resources-six, counts-most}
-use Rattle.positions.proofs.LongerSizes.{Suits, EachSuits, suits-none, suits-more}
+use Rattle.positions.proofs.LongerSizes.{Suits, states-most, EachSuits, suits-none, suits-more}
 use Rattle.install.specs.Candidates.{hasState, namesAt, isNamed, isInCell, isCandidate}
 use Rattle.install.specs.Order.{sameLine, isAmong}
 use Rattle.install.specs.Search.{numberOf, lineAt}
@@ -61,19 +59,9 @@ module _ (c : Cell) (r : Recipe) (z : Sizes) (K : Checked c r z) where
     unfolding isCandidate
     candidate-new = not-true _ (search (and-left, and-right))
 
-    states-most : stateCount (c .resource) (c .from) (c .to) (c .count) (l .resource) ≤ 8
-    unfolding stateCounts
-    states-most =
-        let low : l .resource < 6 = omega (arith, candidate-suits .resource, resources-six c (K .cell-passes)) in
-        omega (
-          arith,
-          counts-most c (K .cell-passes) (l .resource) low,
-          tabulate-at (stateCount (c .resource) (c .from) (c .to) (c .count)) 6 (l .resource) low,
-        )
-
     pub candidate-digits : Digits l
     candidate-digits =
-        let most = states-most in
+        let most = states-most c l (K .cell-passes) candidate-suits in
         record {
           from = omega (arith, candidate-suits .from);
           operation = omega (arith, candidate-suits .operation);

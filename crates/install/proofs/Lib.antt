@@ -12,4 +12,4 @@ pub mod GroupsOfLines
 mod ListedSoFar
 mod TriedGroups
 pub mod OneList
-mod InstallAnswers
+pub mod InstallAnswers

@@ -6,13 +6,12 @@ use Prim.Native.Nat.{ℕ, _+_, _*_, _/_, _%_, _<_, _≤_}
 use native.Mathlib.Nat.{div-div-eq-div-mul}
 use native.Mathlib.Omega.{arith}
 use lib.ListN.{getD}
-use Rattle.refusals.proofs.TabulatedLists.{tabulate-at}
 use Rattle.cell.specs.declared.Cell.{Cell}
 use Rattle.cell.specs.declared.OperationLine.{OperationLine}
 use Rattle.recipe.specs.declared.Recipe.{Recipe}
 use Rattle.positions.specs.declared.Sizes.{Sizes}
-use Rattle.positions.specs.Sizes.{resourceCount, stateCount, stateCounts, sizesFor}
-use Rattle.positions.proofs.SizeBounds.{resources-six}
+use Rattle.positions.specs.Sizes.{resourceCount, stateCount, sizesFor}
+use Rattle.positions.proofs.SizeBounds.{resources-six, count-at}
 use Rattle.positions.proofs.LongerSizes.{Suits}
 use Rattle.install.specs.Candidates.{isNamed, isInCell, isCandidate}
 use Rattle.install.specs.Search.{lineAt, isTried, Question, Looked, looked-found, looked-past}
@@ -48,9 +47,8 @@ module _ (c : Cell) (r : Recipe) (z : Sizes) (named : List Bool) (Q : Question c
   resources-are = own-resources c r z (Q .asked .own)
 
   states-are : (k : ℕ) → k < 6 → getD (z .states) k 0 ≡ stateCount (c .resource) (c .from) (c .to) (c .count) k
-  unfolding sizesFor stateCounts
-  states-are k low =
-      ap (λ (x : Sizes). getD (x .states) k 0) (Q .asked .own) ∙ tabulate-at (stateCount (c .resource) (c .from) (c .to) (c .count)) 6 k low
+  unfolding sizesFor
+  states-are k low = ap (λ (x : Sizes). getD (x .states) k 0) (Q .asked .own) ∙ count-at c (Q .asked .checked .cell-passes) k low
 
   module _ (l : OperationLine) (n : ℕ) (is : l ≡ lineAt n) (inside : n < 4096 * z .resources) where
     six : l .resource < 6

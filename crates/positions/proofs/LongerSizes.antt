@@ -11,16 +11,18 @@ use lib.Dec.{eqb}
 use borrow.Author.Tests.{eqb-true}
 use Rattle.refusals.specs.Search.{greatestBelow, isOf}
 use Rattle.refusals.proofs.Scan.{greatest-longer}
-use Rattle.refusals.proofs.TabulatedLists.{tabulate-at, tabulate-same}
+use Rattle.refusals.proofs.TabulatedLists.{tabulate-same}
+use Rattle.refusals.specs.declared.Verdict.the-variants.{Accepted}
 use Rattle.cell.specs.declared.Cell.{Cell}
 use Rattle.cell.specs.declared.OperationLine.{OperationLine}
+use Rattle.cell.specs.Rules.{checkCell}
 use Rattle.cell.specs.Longer.{withLine, withLines}
 use Rattle.cell.proofs.LongerCell.{Columns, columns-longer, line-kept, line-added, longer-resources, longer-accepted}
 use Rattle.recipe.specs.declared.Recipe.{Recipe}
 use Rattle.positions.specs.declared.Sizes.{Sizes}
 use Rattle.positions.specs.Sizes.{resourceCount, farthest, stateCount, stateCounts, sizesFor, pointsOf}
 use Rattle.positions.specs.Checked.{Checked}
-use Rattle.positions.proofs.SizeBounds.{resources-six, counts-most}
+use Rattle.positions.proofs.SizeBounds.{resources-six, counts-most, count-at}
 
 -- an operation line of a resource and of states that the cell has
 pub record Suits (c : Cell) (l : OperationLine) : Type 0 where
@@ -28,6 +30,12 @@ pub record Suits (c : Cell) (l : OperationLine) : Type 0 where
   pub from : l .from < stateCount (c .resource) (c .from) (c .to) (c .count) (l .resource)
   pub to : l .to < stateCount (c .resource) (c .from) (c .to) (c .count) (l .resource)
   pub operation : l .operation ≤ 63
+
+-- whose resource has at most eight states
+pub states-most : (c : Cell) (l : OperationLine) → checkCell c ≡ Accepted → Suits c l → stateCount (c .resource) (c .from) (c .to) (c .count) (l .resource) ≤ 8
+states-most c l accepted S =
+    let low : l .resource < 6 = omega (arith, S .resource, resources-six c accepted) in
+    omega (arith, counts-most c accepted (l .resource) low, count-at c accepted (l .resource) low)
 
 module _ (c : Cell) (l : OperationLine) (C : Columns c) (few : c .count < 64) (S : Suits c l) where
   -- the added line goes no farther than its resource does
@@ -82,20 +90,9 @@ module _ (c : Cell) (l : OperationLine) (C : Columns c) (few : c .count < 64) (S
 
   module _ (r : Recipe) (z : Sizes) (checked : Checked c r z) where
     -- the states of the added line are in range
-    few-states : stateCount (c .resource) (c .from) (c .to) (c .count) (l .resource) ≤ 8
-    unfolding stateCounts
-    few-states =
-        let low : l .resource < 6 = omega (arith, S .resource, resources-six c (checked .cell-passes)) in
-        omega (
-          arith,
-          counts-most c (checked .cell-passes) (l .resource) low,
-          tabulate-at (stateCount (c .resource) (c .from) (c .to) (c .count)) 6 (l .resource) low,
-        )
-
-    -- what was checked of the cell holds of it with the line
     pub longer-checked : Checked (withLine c l) r z
     longer-checked =
-        let states = few-states in
+        let states = states-most c l (checked .cell-passes) S in
         record {
           cell-passes = longer-accepted c l (checked .cell-passes) C few (S .resource) (omega (arith, S .from)) (S .operation) (omega (arith, S .to));
           recipe-passes = checked .recipe-passes;

@@ -6,22 +6,22 @@ use Prim.Native.Nat.{ℕ, suc, _-_, _/_, _<_, _≤_}
 use native.Mathlib.Omega.{arith}
 use lib.ListN.{length, take, drop}
 use lib.Seq.{take-nil}
-use borrow.Author.Tests.{ltb-true, le-leb, lt-leb}
+use borrow.Author.Tests.{ltb-true}
 use Rattle.refusals.specs.declared.Refusal.the-variants.{FullCell}
-use Rattle.refusals.specs.declared.Verdict.{Verdict}
 use Rattle.refusals.specs.declared.Verdict.the-variants.{Accepted, Refused}
-use Rattle.refusals.proofs.Rules.{accepts, decides}
-use Rattle.refusals.proofs.Verdicts.{noLine-broken, noLine-kept, refused-not}
+use Rattle.refusals.proofs.Verdicts.{refused-not}
 use Rattle.cell.specs.declared.Cell.{Cell}
 use Rattle.cell.specs.declared.OperationLine.{OperationLine}
 use Rattle.recipe.specs.declared.Recipe.{Recipe}
 use Rattle.positions.specs.Sizes.{sizesOf}
 use Rattle.positions.specs.Rules.{checkSizes}
 use Rattle.simulation.specs.Simulation.{Realisable}
+use Rattle.planner.specs.Call.{checkPlan}
 use Rattle.install.specs.declared.Listing.{Listing}
 use Rattle.install.specs.Order.{lineBytes, bytesOf, filledWith}
-use Rattle.install.specs.Call.{rule21, checkInstall, Listed, InstallCall}
+use Rattle.install.specs.Call.{checkInstall, Listed, InstallCall}
 use Rattle.install.proofs.FilledList.{filled-none}
+use Rattle.install.proofs.InstallAnswers.{full-refused, free-accepted}
 use Rattle.install.proofs.OneList.{listed-once}
 use Rattle.worked.specs.Moves.{benchCell, benchRecipe}
 use Rattle.worked.specs.Installed.{line, untestedCell, unfedCell, testingLines, feedingLines, turnedCell, turnedRecipe, turningLines}
@@ -79,14 +79,12 @@ module _
     (long : sizesOf c r .positions ≤ length table)
     (wide : sizesOf c r .positions ≤ length scratch)
   where
-    check : {v : Verdict} → v ≡ rule21 c → v ≡ checkInstall c r (length table) (length scratch)
-    unfolding checkInstall
-    check e = accepts _ refl (check-passes c r sized (length table) (length scratch) long wide) (decides e)
+    before : checkPlan c r (length table) (length scratch) ≡ Accepted
+    before = check-passes c r sized (length table) (length scratch) long wide
 
     module _ (free : c .count < 64) where
       passes : checkInstall c r (length table) (length scratch) ≡ Accepted
-      unfolding rule21
-      passes = sym (check (sym (noLine-kept FullCell _ (lt-leb 64 (c .count) free))))
+      passes = free-accepted c r (length table) (length scratch) before free
 
       pub call-lists :
           (Realisable c r → ⊥)
@@ -112,10 +110,9 @@ module _
           }
 
     pub call-full : c .count ≡ 64 → Full table scratch list table′ scratch′ list′ answer
-    unfolding rule21
     call-full whole =
         let is : checkInstall c r (length table) (length scratch) ≡ Refused FullCell 0 =
-        sym (check (sym (noLine-broken FullCell _ (le-leb 64 (c .count) (omega arith))))) in
+        sym (full-refused c r (length table) (length scratch) before whole) in
         let none : call .lines ≡ [] = call .none-refused (refused-not is) in
         record {
           refused = call .verdict-is ∙ is;

@@ -20,16 +20,19 @@ use Rattle.cell.proofs.LongerCell.{Columns}
 use Rattle.recipe.specs.declared.Recipe.{Recipe}
 use Rattle.positions.specs.declared.Sizes.{Sizes}
 use Rattle.positions.specs.Sizes.{resourceCount, stateCount, sizesOf}
+use Rattle.positions.specs.Checked.{Checked}
 use Rattle.positions.specs.Position.{start, entryOf}
 use Rattle.positions.specs.Rules.{checkSizes}
+use Rattle.positions.proofs.LongerSizes.{Suits}
 use Rattle.positions.proofs.CheckedSizes.{sizes-checked}
 use Rattle.simulation.specs.Simulation.{Greatest, Realisable}
 use Rattle.simulation.proofs.ClosedTableTest.{isClosed}
 use Rattle.simulation.proofs.StageTest.{stageOf, areStages}
-use Rattle.install.specs.Candidates.{hasState, namesAt, isNamed, isCandidate, Mends}
+use Rattle.install.specs.Candidates.{namesAt, isNamed, isCandidate, Mends}
 use Rattle.install.specs.Order.{sameLine, isAmong, rises}
 use Rattle.install.specs.Call.{Listed}
-use Rattle.install.proofs.Members.{same-line}
+use Rattle.install.proofs.Members.{same-line, none-among}
+use Rattle.install.proofs.CandidateLines.{candidate-suits, candidate-named}
 use Rattle.install.proofs.GroupsOfLines.{group-mends-none}
 use Rattle.worked.specs.Installed.{line}
 use Rattle.worked.proofs.Certificates.{closed-realisable, staged-unrealisable}
@@ -50,8 +53,7 @@ among-either P m rest first others l there = decide (or-cases (sameLine l m) (is
     decide (inr later) = others l later
 
 pub among-none : (P : OperationLine → Type 0) (l : OperationLine) → isAmong l [] ≡ true → P l
-unfolding isAmong
-among-none P l there = absurd (true≢false (sym there))
+among-none P l there = absurd (none-among l there)
 
 -- a test that passes at every line of a list
 tested-among : (test : OperationLine → Bool) (lines : List OperationLine) → every test lines ≡ true
@@ -132,24 +134,24 @@ module _ (c : Cell) (r : Recipe) where
 
   -- a test that passes at all those lines passes at every candidate
   candidate-passes :
-      (test : OperationLine → Bool)
+      checkSizes c r ≡ Accepted
+      → (test : OperationLine → Bool)
       → candidatesPass c r test ≡ true
       → (l : OperationLine)
       → isCandidate c r l ≡ true
       → test l ≡ true
-  unfolding candidatesPass linesPass isCandidate hasState isNamed namesAt
-  candidate-passes test all l is =
+  unfolding candidatesPass linesPass isNamed namesAt
+  candidate-passes sized test all l is =
       let S : ℕ = stateCount (c .resource) (c .from) (c .to) (c .count) (l .resource) in
-      let there : l .resource < resourceCount c = ltb-true _ _ (search (and-left, and-right)) in
-      let first : l .from < S = ltb-true _ _ (search (and-left, and-right)) in
-      let last : l .to < S = ltb-true _ _ (search (and-left, and-right)) in
-      let named = any-some (namesAt r (l .operation)) (r .count) (search (and-left, and-right)) in
+      let K : Checked c r (sizesOf c r) = sizes-checked c r sized in
+      let suits : Suits c l = candidate-suits c r (sizesOf c r) K l is in
+      let named = any-some (namesAt r (l .operation)) (r .count) (candidate-named c r (sizesOf c r) K l is) in
       let at-resource =
-      all-at (λ k. linesPass r test k (stateCount (c .resource) (c .from) (c .to) (c .count) k)) (resourceCount c) (l .resource) all there in
+      all-at (λ k. linesPass r test k (stateCount (c .resource) (c .from) (c .to) (c .count) k)) (resourceCount c) (l .resource) all (suits .resource) in
       let at-from =
-      all-at (λ f. allBelow (λ t. allBelow (λ n. test (line (l .resource) f (getD (r .op) n 0) t)) (r .count)) S) S (l .from) at-resource first in
+      all-at (λ f. allBelow (λ t. allBelow (λ n. test (line (l .resource) f (getD (r .op) n 0) t)) (r .count)) S) S (l .from) at-resource (suits .from) in
       let at-to =
-      all-at (λ t. allBelow (λ n. test (line (l .resource) (l .from) (getD (r .op) n 0) t)) (r .count)) S (l .to) at-from last in
+      all-at (λ t. allBelow (λ n. test (line (l .resource) (l .from) (getD (r .op) n 0) t)) (r .count)) S (l .to) at-from (suits .to) in
       let at-line =
       all-at (λ n. test (line (l .resource) (l .from) (getD (r .op) n 0) (l .to))) (r .count) (named .0) at-to (named .1 .0) in
       let operation : getD (r .op) (named .0) 0 ≡ l .operation =
@@ -180,7 +182,7 @@ module _ (c : Cell) (r : Recipe) where
         record {
           candidates = tested-among (isCandidate c r) lines (S .candidates);
           mend = mends;
-          every = λ l is mend. accounted l is mend (isCandidate c r l) is (candidate-passes (isAccounted c r lines others) (S .covered) l is);
+          every = λ l is mend. accounted l is mend (isCandidate c r l) is (candidate-passes (S .sized) (isAccounted c r lines others) (S .covered) l is);
           order = S .order;
         }
       where

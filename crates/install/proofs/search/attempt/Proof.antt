@@ -28,10 +28,10 @@ returns c =
     let start = group .before .before .before .before .before in
     let a = start .args in
     let G = group .gather .ensures (a .recipe) (start .pre .0) in
-    goes-behind (a .cell) (a .recipe) (a .sizes) (start .pre .0 .asked) (a .end) (a .at) (start .pre .1 .0) (group .gather .result) G refl
+    goes-behind _ _ _ (start .pre .0 .asked) _ _ (start .pre .1 .0) _ G refl
     (omega (arith, start .pre .1 .0 .few, G .onward))
-    (none-mends (a .cell) (a .recipe) (a .sizes) (start .pre .0 .asked) (a .end) (a .at) (start .pre .1 .0) (group .gather .result) G
-    (empty-mends-none (a .cell) (a .recipe) (a .sizes) (start .pre .0 .asked) (a .end) (a .at) (start .pre .1 .0) (group .gather .result) G (c .before .if1 .taken)))
+    (none-mends _ _ _ (start .pre .0 .asked) _ _ (start .pre .1 .0) _ G
+    (empty-mends-none _ _ _ (start .pre .0 .asked) _ _ (start .pre .1 .0) _ G (c .before .if1 .taken)))
     (c .behind .ensures)
 
 is-realisable-requires : tie.Need-is-realisable-requires
@@ -40,7 +40,7 @@ is-realisable-requires c κs =
     let start = group .before .before .before .before .before in
     let a = start .args in
     let G = group .gather .ensures (a .recipe) (start .pre .0) in
-    (group-checked (a .cell) (a .recipe) (a .sizes) (start .pre .0 .asked) (a .end) (a .at) (start .pre .1 .0) (group .gather .result) G, start .pre .1 .1 .1 .1)
+    (group-checked _ _ _ (start .pre .0 .asked) _ _ (start .pre .1 .0) _ G, start .pre .1 .1 .1 .1)
 
 behind-requires-2 : tie.Need-behind-requires-2
 behind-requires-2 c κs = let S = c .before .before .before .before .before .before .before .before .before .before .before .before .before .before .before .before .pre .1 .0 in ((S .some, omega (arith, S .fits)), omega arith)
@@ -58,10 +58,10 @@ returns-2 c =
     let start = group .before .before .before .before .before in
     let a = start .args in
     let G = group .gather .ensures (a .recipe) (start .pre .0) in
-    goes-behind (a .cell) (a .recipe) (a .sizes) (start .pre .0 .asked) (a .end) (a .at) (start .pre .1 .0) (group .gather .result) G refl
+    goes-behind _ _ _ (start .pre .0 .asked) _ _ (start .pre .1 .0) _ G refl
     (omega (arith, start .pre .1 .0 .few, G .onward))
-    (none-mends (a .cell) (a .recipe) (a .sizes) (start .pre .0 .asked) (a .end) (a .at) (start .pre .1 .0) (group .gather .result) G
-    (refused-mends-none (a .cell) (a .recipe) (a .sizes) (start .pre .0 .asked) (a .end) (a .at) (start .pre .1 .0) (group .gather .result) G
+    (none-mends _ _ _ (start .pre .0 .asked) _ _ (start .pre .1 .0) _ G
+    (refused-mends-none _ _ _ (start .pre .0 .asked) _ _ (start .pre .1 .0) _ G
     (decided .is-realisable .ensures) (not-true _ (c .before .if2 .taken))))
     (c .behind2 .ensures)
 
@@ -78,7 +78,7 @@ returns-3 c =
     let a = start .args in
     let G = group .gather .ensures (a .recipe) (start .pre .0) in
     let many : 1 < group .gather .result .added = omega (arith, c .before .if3 .taken) in
-    halves (a .cell) (a .recipe) (a .sizes) (start .pre .0 .asked) (a .end) (a .at) (start .pre .1 .0) (group .gather .result) G many refl
+    halves _ _ _ (start .pre .0 .asked) _ _ (start .pre .1 .0) _ G many refl
 
 line-at-requires : tie.Need-line-at-requires
 line-at-requires c κs =
@@ -121,10 +121,10 @@ returns-4 c =
     let there : group .gather .result .added ≡ 0 → ⊥ = some .if1 .left in
     let one : group .gather .result .added ≡ 1 = omega (arith, few .if3 .left) in
     let found = put .put-line .ensures in
-    goes-behind (a .cell) (a .recipe) (a .sizes) (start .pre .0 .asked) (a .end) (a .at) (start .pre .1 .0) (group .gather .result) G refl
+    goes-behind _ _ _ (start .pre .0 .asked) _ _ (start .pre .1 .0) _ G refl
     (omega (arith, found .0, start .pre .1 .0 .few, G .onward))
     (λ buffer F.
-    one-found (a .cell) (a .recipe) (a .sizes) (start .pre .0 .asked) (a .end) (a .at) (start .pre .1 .0) (group .gather .result) G
+    one-found _ _ _ (start .pre .0 .asked) _ _ (start .pre .1 .0) _ G
     (decided .is-realisable .ensures) one (not-false _ (accepted .if2 .left)) buffer F (found .0)
     (found .1 buffer (F .lines) (F .count-is) (F .list-is) ∙ ap (λ (l : OperationLine). filledWith (F .lines ++ (l ∷ [])) buffer) (put .before .line-at .ensures)))
     (c .behind3 .ensures)
