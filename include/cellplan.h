@@ -65,9 +65,10 @@
  *     12  Recipe: a do's `then` or a test's `then` or `else` is N or more, N being the number of
  *         points.
  *     13  M exceeds CELLPLAN_MOST_POSITIONS.
- *     14  The table has fewer than M entries, or the scratch of plan or install fewer than M bytes. Of
- *         read_cell, read_recipe and fresh: the buffer lent for the record or the run is too short.
- *         That is tried before all else, names no line, and leaves the buffer as it was.
+ *     14  The table has fewer than M entries, or the scratch of plan or install fewer than (M + 7) / 8
+ *         bytes, a bit for each position. Of read_cell, read_recipe and fresh: the buffer lent for the
+ *         record or the run is too short. That is tried before all else, names no line, and leaves the
+ *         buffer as it was.
  *     21  Install: the cell has 64 lines already, so that there is no place for another one.
  *     15  Planner: the cell cannot build the recipe so that no resource ever holds more parts than its
  *         limit. The table is filled all the same.
@@ -99,6 +100,9 @@ extern "C" {
 
 /* The most positions that rule 13 lets pass. A table of so many entries is never too short. */
 #define CELLPLAN_MOST_POSITIONS 1048576
+
+/* Bytes with a bit for each of these positions. A scratch of so many is never too short. */
+#define CELLPLAN_MOST_SCRATCH_BYTES ((CELLPLAN_MOST_POSITIONS + 7) / 8)
 
 /*
  * The bytes of a process in the list of an install call, and more processes than there can be: those of
@@ -170,9 +174,10 @@ uint32_t cellplan_check(const uint8_t *cell, size_t cell_length,
  * Plans: fills the first M entries of the table. An entry is other than 0 exactly at the positions from
  * which the recipe can be followed to an end, or for ever, whatever the outcomes of its tests, while no
  * resource ever holds more parts than its limit, at the position itself and at an end too; it is then the
- * move to make there. The result is 0, or the refusal, of which those from 13 on are tried in the
- * order 13, 14, 15; it is 15 if position 0 has entry 0. Accepted, and refused with 15, the entries past M
- * keep their content, and what the scratch then holds is free; refused otherwise, both stay as they were.
+ * move to make there. The scratch, a bit for each position in (M + 7) / 8 bytes or more, may hold anything
+ * before. The result is 0, or the refusal, of which those from 13 on are tried in the order 13, 14, 15; it
+ * is 15 if position 0 has entry 0. Accepted, and refused with 15, the entries past M keep their content,
+ * and what the scratch then holds is free; refused otherwise, both stay as they were.
  */
 uint32_t cellplan_plan(const uint8_t *cell, size_t cell_length,
                        const uint8_t *recipe, size_t recipe_length,
@@ -190,7 +195,8 @@ uint32_t cellplan_plan(const uint8_t *cell, size_t cell_length,
  *     resource, from, operation, to,
  * rising by these four numbers in this order, each once, as far as whole ones fit. The bytes of the list
  * past these stay as they were, and the count is that of all processes, those too for which there was no
- * place. What the table and the scratch then hold is free. Refused, all three stay as they were.
+ * place. Table and scratch have the lengths that plan wants, a bit of scratch for each position; what they
+ * hold afterwards is free. Refused, all three stay as they were.
  */
 uint64_t cellplan_install(const uint8_t *cell, size_t cell_length,
                           const uint8_t *recipe, size_t recipe_length,

@@ -5,7 +5,7 @@ use crate::{best_times_of, plain};
 use against::calls::{Calls, Independent, Library};
 use against::independent::{
     cell_bytes, cell_of_bytes, dense_pair, judge, long_ways_pair, mixed_pair, odometer_pair,
-    recipe_bytes, recipe_of_bytes, Cell, Random, Recipe, Sizes,
+    recipe_bytes, recipe_of_bytes, scratch_bytes, Cell, Random, Recipe, Sizes,
 };
 use against::{CellFile, Format, RecipeFile};
 use std::hint::black_box;
@@ -39,7 +39,7 @@ impl Case {
             cell: cell_bytes(&cell).to_vec(),
             recipe: recipe_bytes(&recipe).to_vec(),
             table: vec![0; positions],
-            scratch: vec![0; positions],
+            scratch: vec![0; scratch_bytes(positions as u64) as usize],
             least_rounds,
         }
     }
@@ -180,5 +180,13 @@ mod tests {
             let limited = planned_positions(with_limits(pair.clone(), limits));
             assert!(4 * limited < 3 * planned_positions(pair), "{name}");
         }
+    }
+
+    #[test]
+    fn plain_rust_needs_a_bit_for_each_position() {
+        let mut case = Case::new("", pair_of_files(BENCH_CELL, BENCH_RECIPE), 0);
+        assert_eq!((case.scratch.len(), case.planned(plain::plan).0), (12, 0));
+        case.scratch.pop();
+        assert_eq!(case.planned(plain::plan).0, 14);
     }
 }

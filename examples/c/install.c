@@ -28,7 +28,7 @@ struct work {
 static void lend(struct work *work)
 {
     work->table = malloc(CELLPLAN_MOST_POSITIONS * sizeof work->table[0]);
-    work->scratch = malloc(CELLPLAN_MOST_POSITIONS);
+    work->scratch = malloc(CELLPLAN_MOST_SCRATCH_BYTES);
     if (work->table == NULL || work->scratch == NULL)
         fail("install");
 }
@@ -39,7 +39,7 @@ static uint32_t install(struct work *work)
     uint64_t result = cellplan_install(work->cell, sizeof work->cell,
                                        work->recipe, sizeof work->recipe,
                                        work->table, CELLPLAN_MOST_POSITIONS,
-                                       work->scratch, CELLPLAN_MOST_POSITIONS,
+                                       work->scratch, CELLPLAN_MOST_SCRATCH_BYTES,
                                        work->list, sizeof work->list);
 
     if (CELLPLAN_INSTALL_REFUSAL(result) != 0)
@@ -53,7 +53,7 @@ static void print_none(struct work *work)
     uint32_t refusal = cellplan_plan(work->cell, sizeof work->cell,
                                      work->recipe, sizeof work->recipe,
                                      work->table, CELLPLAN_MOST_POSITIONS,
-                                     work->scratch, CELLPLAN_MOST_POSITIONS);
+                                     work->scratch, CELLPLAN_MOST_SCRATCH_BYTES);
 
     puts(refusal == 0 ? "the recipe can be built as it is" : "no single line would do");
 }

@@ -31,7 +31,7 @@ struct screen {
 /* Plans with as many places as a plan can need. */
 static void plan(struct screen *screen)
 {
-    uint8_t *scratch = malloc(CELLPLAN_MOST_POSITIONS);
+    uint8_t *scratch = malloc(CELLPLAN_MOST_SCRATCH_BYTES);
     uint32_t refusal;
 
     screen->table = malloc(CELLPLAN_MOST_POSITIONS * sizeof screen->table[0]);
@@ -40,7 +40,7 @@ static void plan(struct screen *screen)
     refusal = cellplan_plan(screen->cell, sizeof screen->cell,
                             screen->recipe, sizeof screen->recipe,
                             screen->table, CELLPLAN_MOST_POSITIONS,
-                            scratch, CELLPLAN_MOST_POSITIONS);
+                            scratch, CELLPLAN_MOST_SCRATCH_BYTES);
     free(scratch);
     if (refusal != 0)
         refuse("plan", refusal);

@@ -150,7 +150,7 @@ module _
     (lent scratch planned scratch′ : List ℕ) (verdict : Verdict)
     (call : PlanCall benchCell benchRecipe lent scratch planned scratch′ verdict)
     (long : 90 ≤ length lent)
-    (wide : 90 ≤ length scratch)
+    (wide : 12 ≤ length scratch)
   where
     pub four-moves : namesLine ++ printed benchCell benchRecipe planned freshRun outcomes ≡ namesLine ++ fourMoves
     four-moves =

@@ -1,7 +1,7 @@
 -- What the files and the plan come to, by where it was refused. Assumes nothing.
 use mathlib.Core.Path.{_≡_, refl, sym, ap, subst, _∙_}
 use mathlib.Core.List.{List, [], _∷_}
-use Prim.Native.Nat.{ℕ}
+use Prim.Native.Nat.{ℕ, _*_}
 use native.Mathlib.Omega.{arith}
 use lib.ListN.{length, take, length-take}
 use lib.Seq.{take-all}
@@ -77,7 +77,7 @@ module _ (table : List ℕ) (cell : CellReading) (recipe : RecipeReading) (cell-
   pub prepared-planned : (verdict plan : Verdict) (entry scratch scratch′ : List ℕ)
       → verdict ≡ firstRefusal (cell .verdict ∷ recipe .verdict ∷ []) → verdict ≡ Accepted
       → length entry ≡ 8192
-      → length scratch ≡ 8192
+      → length scratch * 8 ≡ 8192
       → PlanCall (cell .cell) (recipe .recipe) entry scratch table scratch′ plan
       → Prepared table (record { verdict = plan; cell = cell .cell; recipe = recipe .recipe })
   prepared-planned verdict plan entry scratch scratch′ is told long wide call =

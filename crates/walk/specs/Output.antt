@@ -3,7 +3,7 @@
 use mathlib.Core.Path.{_≡_}
 use mathlib.Core.Bool.{true, false}
 use mathlib.Core.List.{List, [], _∷_, _++_}
-use Prim.Native.Nat.{ℕ, _≤_}
+use Prim.Native.Nat.{ℕ, _*_, _≤_}
 use lib.ListN.{length, take}
 use Rattle.refusals.specs.Refusal.{numberOf}
 use Rattle.refusals.specs.declared.Verdict.{Verdict}
@@ -42,13 +42,13 @@ CellRead reading = (file : List ℕ) × (reading ≡ readCell (take 8192 file))
 abbrev pub RecipeRead : RecipeReading → Type 0
 RecipeRead reading = (file : List ℕ) × (reading ≡ readRecipe (take 8192 file))
 
--- "Its table and scratch have 8192 places": the table and the verdict that a plan call leaves
+-- "Its table and scratch have 8192 places", the scratch eight in a byte: the table and the verdict that a plan call leaves
 pub record PlanMade (c : Cell) (r : Recipe) (table′ : List ℕ) (verdict : Verdict) : Type 0 where
   pub table : List ℕ
   pub scratch : List ℕ
   pub scratch′ : List ℕ
   pub table-places : length table ≡ 8192
-  pub scratch-places : length scratch ≡ 8192
+  pub scratch-places : length scratch * 8 ≡ 8192
   pub call : PlanCall c r table scratch table′ scratch′ verdict
 
 -- what two files lead to: the verdict on the cell, then on the recipe, then on the plan, and a planned table

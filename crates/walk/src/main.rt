@@ -115,7 +115,7 @@ fn first_refusal(first: Verdict, second: Verdict) -> Verdict
     second
 }
 
-// Reads the cell and the recipe, and plans with 8192 places.
+// Reads the cell and the recipe, and plans with 8192 places: a scratch of 1024 bytes has as many.
 fn prepare(table: &mut [u32]) -> Ready
     requires { ⌜ length (now table) ≡ 8192 ⌝ }
     ensures { λ r. ⌜ Prepared (now (table .exit)) r ⌝ }
@@ -134,7 +134,7 @@ fn prepare(table: &mut [u32]) -> Ready
             recipe,
         };
     };
-    let mut scratch = [0u8; 8192];
+    let mut scratch = [0u8; 1024];
     let verdict = planner::plan(cell, recipe, table, &mut scratch);
     Ready {
         verdict,

@@ -2,12 +2,13 @@
 -- the call's contract, whatever was lent. Assumes nothing.
 use mathlib.Core.Path.{_≡_, refl, sym, ap, _∙_}
 use mathlib.Core.List.{List, [], _∷_, _++_}
-use Prim.Native.Nat.{ℕ, suc, _-_, _/_, _<_, _≤_}
+use Prim.Native.Nat.{ℕ, suc, _+_, _-_, _/_, _<_, _≤_}
 use native.Mathlib.Omega.{arith}
 use lib.ListN.{length, take, drop}
 use lib.Seq.{take-nil}
 use borrow.Author.Tests.{ltb-true}
-use Rattle.refusals.specs.declared.Refusal.the-variants.{FullCell}
+use Rattle.refusals.specs.declared.Refusal.{Refusal}
+use Rattle.refusals.specs.declared.Refusal.the-variants.{TooShort, FullCell}
 use Rattle.refusals.specs.declared.Verdict.the-variants.{Accepted, Refused}
 use Rattle.refusals.proofs.Verdicts.{refused-not}
 use Rattle.cell.specs.declared.Cell.{Cell}
@@ -21,12 +22,12 @@ use Rattle.install.specs.declared.Listing.{Listing}
 use Rattle.install.specs.Order.{lineBytes, bytesOf, filledWith}
 use Rattle.install.specs.Call.{checkInstall, Listed, InstallCall}
 use Rattle.install.proofs.FilledList.{filled-none}
-use Rattle.install.proofs.InstallAnswers.{full-refused, free-accepted}
+use Rattle.install.proofs.InstallAnswers.{plan-refused, full-refused, free-accepted}
 use Rattle.install.proofs.OneList.{listed-once}
 use Rattle.worked.specs.Moves.{benchCell, benchRecipe}
 use Rattle.worked.specs.Installed.{line, untestedCell, unfedCell, testingLines, feedingLines, turnedCell, turnedRecipe, turningLines}
 use Rattle.worked.specs.Installed.{singleCell, singleRecipe, singleLines, fullCell}
-use Rattle.worked.proofs.LentLengths.{check-passes}
+use Rattle.worked.proofs.LentLengths.{check-passes, check-short}
 use Rattle.worked.proofs.BenchPlan.{computed as bench, bench-planned}
 use Rattle.worked.proofs.InstallPlans.{computed, untested-fails, untested-listed, unfed-fails, unfed-listed, turned-fails}
 use Rattle.worked.proofs.InstallPlans.{turned-listed, single-fails, single-listed}
@@ -44,9 +45,9 @@ pub record NoneNeeded (list list′ : List ℕ) (answer : Listing) : Type 0 wher
   pub none : answer .count ≡ 0
   pub same-list : list′ ≡ list
 
--- "21 for a cell that already has 64 lines": nothing changes, and the count is 0
-pub record Full (table scratch list table′ scratch′ list′ : List ℕ) (answer : Listing) : Type 0 where
-  pub refused : answer .verdict ≡ Refused FullCell 0
+-- refused: nothing changes, and the count is 0
+pub record Refuses (refusal : Refusal) (table scratch list table′ scratch′ list′ : List ℕ) (answer : Listing) : Type 0 where
+  pub refused : answer .verdict ≡ Refused refusal 0
   pub none : answer .count ≡ 0
   pub same-table : table′ ≡ table
   pub same-scratch : scratch′ ≡ scratch
@@ -72,47 +73,17 @@ seven-filled l m list seven =
     let once : length list / 4 ≡ 1 = omega arith in
     ap (λ (n : ℕ). bytesOf (take n (l ∷ m ∷ [])) ++ drop (length (bytesOf (take n (l ∷ m ∷ [])))) list) once
 
--- the answers, of any cell and recipe that pass the rules before 14, for lent lengths that are not too short
+-- the answers, of any cell and recipe that pass the rules before 14, for a table that is not too short
 module _
     (c : Cell) (r : Recipe) (sized : checkSizes c r ≡ Accepted) (table scratch list table′ scratch′ list′ : List ℕ) (answer : Listing)
     (call : InstallCall c r table scratch list table′ scratch′ list′ answer)
     (long : sizesOf c r .positions ≤ length table)
-    (wide : sizesOf c r .positions ≤ length scratch)
   where
-    before : checkPlan c r (length table) (length scratch) ≡ Accepted
-    before = check-passes c r sized (length table) (length scratch) long wide
-
-    module _ (free : c .count < 64) where
-      passes : checkInstall c r (length table) (length scratch) ≡ Accepted
-      passes = free-accepted c r (length table) (length scratch) before free
-
-      pub call-lists :
-          (Realisable c r → ⊥)
-          → (lines : List OperationLine) (count : ℕ)
-          → Listed c r lines
-          → length lines ≡ count
-          → Lists lines count (call .lines) list list′ answer
-      call-lists fails lines count is many =
-          let same : call .lines ≡ lines = listed-once c r (call .lines) lines (call .listed passes fails) is in
-          record {
-            accepted = call .verdict-is ∙ passes;
-            exactly = same;
-            full-count = call .count-is ∙ ap (λ (xs : List OperationLine). length xs) same ∙ many;
-            bytes = call .list-is ∙ ap (λ (xs : List OperationLine). filledWith xs list) same;
-          }
-
-      pub call-needs-none : Realisable c r → NoneNeeded list list′ answer
-      call-needs-none builds =
-          record {
-            accepted = call .verdict-is ∙ passes;
-            none = call .count-is ∙ ap (λ (xs : List OperationLine). length xs) (call .none-needed builds);
-            same-list = none-filled (call .lines) list list′ (call .list-is) (call .none-needed builds);
-          }
-
-    pub call-full : c .count ≡ 64 → Full table scratch list table′ scratch′ list′ answer
-    call-full whole =
-        let is : checkInstall c r (length table) (length scratch) ≡ Refused FullCell 0 =
-        sym (full-refused c r (length table) (length scratch) before whole) in
+    refuses :
+        (refusal : Refusal)
+        → checkInstall c r (length table) (length scratch) ≡ Refused refusal 0
+        → Refuses refusal table scratch list table′ scratch′ list′ answer
+    refuses refusal is =
         let none : call .lines ≡ [] = call .none-refused (refused-not is) in
         record {
           refused = call .verdict-is ∙ is;
@@ -122,12 +93,54 @@ module _
           same-list = none-filled (call .lines) list list′ (call .list-is) none;
         }
 
+    pub call-short : length scratch < (sizesOf c r .positions + 7) / 8 → Refuses TooShort table scratch list table′ scratch′ list′ answer
+    call-short narrow =
+        let short = check-short c r sized (length table) (length scratch) long narrow in
+        refuses TooShort (sym (plan-refused c r (length table) (length scratch) (sym short) refl))
+
+    -- and a scratch that isn't either
+    module _ (wide : (sizesOf c r .positions + 7) / 8 ≤ length scratch) where
+      before : checkPlan c r (length table) (length scratch) ≡ Accepted
+      before = check-passes c r sized (length table) (length scratch) long wide
+
+      module _ (free : c .count < 64) where
+        passes : checkInstall c r (length table) (length scratch) ≡ Accepted
+        passes = free-accepted c r (length table) (length scratch) before free
+
+        pub call-lists :
+            (Realisable c r → ⊥)
+            → (lines : List OperationLine) (count : ℕ)
+            → Listed c r lines
+            → length lines ≡ count
+            → Lists lines count (call .lines) list list′ answer
+        call-lists fails lines count is many =
+            let same : call .lines ≡ lines = listed-once c r (call .lines) lines (call .listed passes fails) is in
+            record {
+              accepted = call .verdict-is ∙ passes;
+              exactly = same;
+              full-count = call .count-is ∙ ap (λ (xs : List OperationLine). length xs) same ∙ many;
+              bytes = call .list-is ∙ ap (λ (xs : List OperationLine). filledWith xs list) same;
+            }
+
+        pub call-needs-none : Realisable c r → NoneNeeded list list′ answer
+        call-needs-none builds =
+            record {
+              accepted = call .verdict-is ∙ passes;
+              none = call .count-is ∙ ap (λ (xs : List OperationLine). length xs) (call .none-needed builds);
+              same-list = none-filled (call .lines) list list′ (call .list-is) (call .none-needed builds);
+            }
+
+      pub call-full : c .count ≡ 64 → Refuses FullCell table scratch list table′ scratch′ list′ answer
+      call-full whole =
+          refuses FullCell
+          (sym (full-refused c r (length table) (length scratch) before whole))
+
 module _ (table scratch list table′ scratch′ list′ : List ℕ) (answer : Listing) where
   -- the bench example without its line 3
   module _
       (call : InstallCall untestedCell benchRecipe table scratch list table′ scratch′ list′ answer)
       (long : 90 ≤ length table)
-      (wide : 90 ≤ length scratch)
+      (wide : 12 ≤ length scratch)
     where
       pub untested-called : Lists testingLines 1 (call .lines) list list′ answer
       unfolding testingLines
@@ -144,7 +157,7 @@ module _ (table scratch list table′ scratch′ list′ : List ℕ) (answer : L
   module _
       (call : InstallCall unfedCell benchRecipe table scratch list table′ scratch′ list′ answer)
       (long : 90 ≤ length table)
-      (wide : 90 ≤ length scratch)
+      (wide : 12 ≤ length scratch)
     where
       pub unfed-called : Lists feedingLines 2 (call .lines) list list′ answer
       unfolding feedingLines
@@ -161,7 +174,7 @@ module _ (table scratch list table′ scratch′ list′ : List ℕ) (answer : L
   pub turned-called :
       (call : InstallCall turnedCell turnedRecipe table scratch list table′ scratch′ list′ answer)
       → 24 ≤ length table
-      → 24 ≤ length scratch
+      → 3 ≤ length scratch
       → Lists turningLines 3 (call .lines) list list′ answer
   unfolding turningLines
   turned-called call long wide =
@@ -173,7 +186,7 @@ module _ (table scratch list table′ scratch′ list′ : List ℕ) (answer : L
   pub single-called :
       (call : InstallCall singleCell (singleRecipe 2) table scratch list table′ scratch′ list′ answer)
       → 4 ≤ length table
-      → 4 ≤ length scratch
+      → 1 ≤ length scratch
       → Lists singleLines 1 (call .lines) list list′ answer
   unfolding singleLines
   single-called call long wide =
@@ -185,19 +198,29 @@ module _ (table scratch list table′ scratch′ list′ : List ℕ) (answer : L
   pub bench-needs-none :
       InstallCall benchCell benchRecipe table scratch list table′ scratch′ list′ answer
       → 90 ≤ length table
-      → 90 ≤ length scratch
+      → 12 ≤ length scratch
       → NoneNeeded list list′ answer
   unfolding benchCell
   bench-needs-none call long wide =
       call-needs-none benchCell benchRecipe (bench .sized) table scratch list table′ scratch′ list′ answer call
       (omega (arith, bench .positions)) (omega (arith, bench .positions)) (ltb-true 5 64 refl) (bench-planned .accepted-holds refl)
 
+  -- with 11 bytes of scratch
+  pub bench-short :
+      InstallCall benchCell benchRecipe table scratch list table′ scratch′ list′ answer
+      → 90 ≤ length table
+      → length scratch ≤ 11
+      → Refuses TooShort table scratch list table′ scratch′ list′ answer
+  bench-short call long narrow =
+      call-short benchCell benchRecipe (bench .sized) table scratch list table′ scratch′ list′ answer call
+      (omega (arith, bench .positions)) (omega (arith, bench .positions))
+
   -- a cell of 64 lines
   pub full-called :
       InstallCall fullCell (singleRecipe 1) table scratch list table′ scratch′ list′ answer
       → 4 ≤ length table
-      → 4 ≤ length scratch
-      → Full table scratch list table′ scratch′ list′ answer
+      → 1 ≤ length scratch
+      → Refuses FullCell table scratch list table′ scratch′ list′ answer
   full-called call long wide =
       call-full fullCell (singleRecipe 1) (computed .full-sized) table scratch list table′ scratch′ list′ answer call
       (omega (arith, computed .full-positions)) (omega (arith, computed .full-positions)) (computed .full-count)

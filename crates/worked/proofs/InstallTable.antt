@@ -2,8 +2,9 @@
 -- row is computed, or follows from what is computed. Assumes nothing.
 use mathlib.Core.Path.{_≡_}
 use mathlib.Core.List.{List, _∷_}
-use Prim.Native.Nat.{ℕ, _≤_}
+use Prim.Native.Nat.{ℕ, _+_, _/_, _≤_}
 use lib.ListN.{length, drop}
+use Rattle.refusals.specs.declared.Refusal.the-variants.{FullCell}
 use Rattle.refusals.specs.declared.Verdict.the-variants.{Accepted}
 use Rattle.cell.specs.declared.Cell.{Cell}
 use Rattle.recipe.specs.declared.Recipe.{Recipe}
@@ -16,7 +17,7 @@ use Rattle.worked.specs.Moves.{benchCell, benchRecipe}
 use Rattle.worked.specs.Installed.{untestedCell, unfedCell, testingLines, feedingLines, turnedCell, turnedRecipe, turningLines}
 use Rattle.worked.specs.Installed.{singleCell, singleRecipe, singleLines, fullCell}
 use Rattle.worked.proofs.InstallPlans.{Together, together, full-builds}
-use Rattle.worked.proofs.InstallCalls.{Lists, NoneNeeded, Full, call-full, untested-called, untested-bytes, unfed-called, unfed-bytes}
+use Rattle.worked.proofs.InstallCalls.{Lists, NoneNeeded, Refuses, call-full, untested-called, untested-bytes, unfed-called, unfed-bytes}
 use Rattle.worked.proofs.InstallCalls.{turned-called, single-called, bench-needs-none, full-called}
 
 pub record InstallTable : Type 0 where
@@ -25,14 +26,14 @@ pub record InstallTable : Type 0 where
       (table scratch list table′ scratch′ list′ : List ℕ) (answer : Listing)
       (call : InstallCall untestedCell benchRecipe table scratch list table′ scratch′ list′ answer)
       → 90 ≤ length table
-      → 90 ≤ length scratch
+      → 12 ≤ length scratch
       → Lists testingLines 1 (call .lines) list list′ answer
   -- with which a buffer of four bytes or more begins
   pub of-line-3-bytes :
       (table scratch list table′ scratch′ list′ : List ℕ) (answer : Listing)
       → InstallCall untestedCell benchRecipe table scratch list table′ scratch′ list′ answer
       → 90 ≤ length table
-      → 90 ≤ length scratch
+      → 12 ≤ length scratch
       → 4 ≤ length list
       → list′ ≡ 1 ∷ 1 ∷ 2 ∷ 2 ∷ drop 4 list
   -- "alone makes the recipe acceptable": what the 36 other candidates do together does not list them
@@ -42,14 +43,14 @@ pub record InstallTable : Type 0 where
       (table scratch list table′ scratch′ list′ : List ℕ) (answer : Listing)
       (call : InstallCall unfedCell benchRecipe table scratch list table′ scratch′ list′ answer)
       → 90 ≤ length table
-      → 90 ≤ length scratch
+      → 12 ≤ length scratch
       → Lists feedingLines 2 (call .lines) list list′ answer
   -- "as far as whole lines fit, the rest keeps its content": of seven bytes the last three, and "the result carries the full count", 2
   pub of-seven-bytes :
       (table scratch list table′ scratch′ list′ : List ℕ) (answer : Listing)
       → InstallCall unfedCell benchRecipe table scratch list table′ scratch′ list′ answer
       → 90 ≤ length table
-      → 90 ≤ length scratch
+      → 12 ≤ length scratch
       → length list ≡ 7
       → list′ ≡ 0 ∷ 0 ∷ 1 ∷ 1 ∷ drop 4 list
   -- a station of two states that operation 1 finds in state 1: 0,0,2,0, then 0,1,1,0, then 0,1,1,1
@@ -57,21 +58,21 @@ pub record InstallTable : Type 0 where
       (table scratch list table′ scratch′ list′ : List ℕ) (answer : Listing)
       (call : InstallCall turnedCell turnedRecipe table scratch list table′ scratch′ list′ answer)
       → 24 ≤ length table
-      → 24 ≤ length scratch
+      → 3 ≤ length scratch
       → Lists turningLines 3 (call .lines) list list′ answer
   -- "uses states that the resource already has": of one state 0,0,2,0 alone
   pub of-one-state :
       (table scratch list table′ scratch′ list′ : List ℕ) (answer : Listing)
       (call : InstallCall singleCell (singleRecipe 2) table scratch list table′ scratch′ list′ answer)
       → 4 ≤ length table
-      → 4 ≤ length scratch
+      → 1 ≤ length scratch
       → Lists singleLines 1 (call .lines) list list′ answer
   -- "An acceptable recipe gives count 0": the bench example itself
   pub of-bench :
       (table scratch list table′ scratch′ list′ : List ℕ) (answer : Listing)
       → InstallCall benchCell benchRecipe table scratch list table′ scratch′ list′ answer
       → 90 ≤ length table
-      → 90 ≤ length scratch
+      → 12 ≤ length scratch
       → NoneNeeded list list′ answer
   -- "21 for a cell that already has 64 lines, after 14": any that passes the rules before it
   pub of-full-cells :
@@ -80,16 +81,16 @@ pub record InstallTable : Type 0 where
       → (table scratch list table′ scratch′ list′ : List ℕ) (answer : Listing)
       → InstallCall c r table scratch list table′ scratch′ list′ answer
       → sizesOf c r .positions ≤ length table
-      → sizesOf c r .positions ≤ length scratch
+      → (sizesOf c r .positions + 7) / 8 ≤ length scratch
       → c .count ≡ 64
-      → Full table scratch list table′ scratch′ list′ answer
+      → Refuses FullCell table scratch list table′ scratch′ list′ answer
   -- also where the recipe is acceptable
   pub of-full-cell :
       (table scratch list table′ scratch′ list′ : List ℕ) (answer : Listing)
       → InstallCall fullCell (singleRecipe 1) table scratch list table′ scratch′ list′ answer
       → 4 ≤ length table
-      → 4 ≤ length scratch
-      → Full table scratch list table′ scratch′ list′ answer
+      → 1 ≤ length scratch
+      → Refuses FullCell table scratch list table′ scratch′ list′ answer
   pub of-full-builds : Realisable fullCell (singleRecipe 1)
 
 pub install-table : InstallTable

@@ -2,13 +2,13 @@
 -- 14, and if nothing is too short the call accepts what is realisable and refuses all else. Assumes nothing.
 use mathlib.Core.Path.{_≡_, refl, sym, _∙_}
 use mathlib.Core.List.{List}
-use Prim.Native.Nat.{ℕ, _<_, _≤_}
+use Prim.Native.Nat.{ℕ, _+_, _/_, _<_, _≤_}
 use lib.ListN.{length}
 use borrow.Author.Tests.{lt-ltb, le-ltb}
 use Rattle.refusals.specs.declared.Refusal.the-variants.{TooShort, NotRealisable}
 use Rattle.refusals.specs.declared.Verdict.{Verdict}
 use Rattle.refusals.specs.declared.Verdict.the-variants.{Accepted, Refused}
-use Rattle.refusals.proofs.Verdicts.{noLine-broken, noLine-kept}
+use Rattle.refusals.proofs.Verdicts.{refused-not, noLine-broken, noLine-kept}
 use Rattle.refusals.proofs.Rules.{refuses, accepts, decides, part-accepts}
 use Rattle.cell.specs.declared.Cell.{Cell}
 use Rattle.recipe.specs.declared.Recipe.{Recipe}
@@ -28,11 +28,11 @@ module _ (c : Cell) (r : Recipe) (sized : checkSizes c r ≡ Accepted) (table sc
       (part-accepts (recordRules c r) (lentRules (sizesOf c r) table scratch) refl (records-ok c r sized)
       (accepts _ refl (few-ok c r sized) (accepts _ refl (noLine-kept TooShort _ (le-ltb _ _ long)) (decides e))))
 
-  pub check-passes : sizesOf c r .positions ≤ scratch → checkPlan c r table scratch ≡ Accepted
+  pub check-passes : (sizesOf c r .positions + 7) / 8 ≤ scratch → checkPlan c r table scratch ≡ Accepted
   unfolding rule14Scratch
   check-passes wide = checked (sym (noLine-kept TooShort _ (le-ltb _ _ wide)))
 
-  check-short : scratch < sizesOf c r .positions → checkPlan c r table scratch ≡ Refused TooShort 0
+  pub check-short : scratch < (sizesOf c r .positions + 7) / 8 → checkPlan c r table scratch ≡ Refused TooShort 0
   unfolding rule14Scratch
   check-short narrow = checked (sym (noLine-broken TooShort _ (lt-ltb _ _ narrow)))
 
@@ -42,12 +42,17 @@ module _
     (call : PlanCall c r table scratch table′ scratch′ verdict)
     (long : sizesOf c r .positions ≤ length table)
   where
-    pub short-refused : length scratch < sizesOf c r .positions → verdict ≡ Refused TooShort 0
-    short-refused narrow =
-        let is = check-short c r sized (length table) (length scratch) long narrow in
-        call .answer ∙ sym (refuses _ refl is) ∙ is
+    module _ (narrow : length scratch < (sizesOf c r .positions + 7) / 8) where
+      short : checkPlan c r (length table) (length scratch) ≡ Refused TooShort 0
+      short = check-short c r sized (length table) (length scratch) long narrow
 
-    module _ (wide : sizesOf c r .positions ≤ length scratch) where
+      pub short-refused : verdict ≡ Refused TooShort 0
+      short-refused = call .answer ∙ sym (refuses _ refl short) ∙ short
+
+      pub short-untouched : (table′ ≡ table) × (scratch′ ≡ scratch)
+      short-untouched = call .untouched (refused-not short)
+
+    module _ (wide : (sizesOf c r .positions + 7) / 8 ≤ length scratch) where
       passes : checkPlan c r (length table) (length scratch) ≡ Accepted
       passes = check-passes c r sized (length table) (length scratch) long wide
 

@@ -3,7 +3,7 @@
 use mathlib.Core.Path.{_≡_, sym, subst, ap, _∙_}
 use mathlib.Core.Bool.{true}
 use mathlib.Core.List.{List, []}
-use Prim.Native.Nat.{ℕ, _≤_}
+use Prim.Native.Nat.{ℕ, _+_, _/_, _≤_}
 use native.Mathlib.Omega.{arith}
 use lib.ListN.{length, getD}
 use Rattle.refusals.specs.declared.Refusal.the-variants.{NotRealisable}
@@ -45,7 +45,7 @@ module _ (table scratch table′ scratch′ : List ℕ) (verdict : Verdict) wher
   pub glue-two-called :
       PlanCall (glueCell 2) glueRecipe table scratch table′ scratch′ verdict
       → 12 ≤ length table
-      → 12 ≤ length scratch
+      → 2 ≤ length scratch
       → verdict ≡ Accepted
   glue-two-called call long wide =
       call-accepts (glueCell 2) glueRecipe (computed .two-sized) table scratch table′ scratch′ verdict call
@@ -54,12 +54,12 @@ module _ (table scratch table′ scratch′ : List ℕ) (verdict : Verdict) wher
   pub glue-one-called :
       PlanCall (glueCell 1) glueRecipe table scratch table′ scratch′ verdict
       → 12 ≤ length table
-      → 12 ≤ length scratch
+      → 2 ≤ length scratch
       → Overfull table′ verdict
   unfolding entryOf
   glue-one-called call long wide =
       let fits : glueSizes 1 .positions ≤ length table = omega (arith, computed .one-positions) in
-      let roomy : glueSizes 1 .positions ≤ length scratch = omega (arith, computed .one-positions) in
+      let roomy : (glueSizes 1 .positions + 7) / 8 ≤ length scratch = omega (arith, computed .one-positions) in
       record {
         refused = call-refuses (glueCell 1) glueRecipe (computed .one-sized) table scratch table′ scratch′ verdict call fits roomy glue-of-one;
         entry-11 =
@@ -72,12 +72,12 @@ module _ (table scratch table′ scratch′ : List ℕ) (verdict : Verdict) wher
   pub mend-called :
       PlanCall mendCell mendRecipe table scratch table′ scratch′ verdict
       → 108 ≤ length table
-      → 108 ≤ length scratch
+      → 14 ≤ length scratch
       → Mended table′ verdict
   unfolding entryOf
   mend-called call long wide =
       let fits : mendSizes .positions ≤ length table = omega (arith, computed .mend-positions) in
-      let roomy : mendSizes .positions ≤ length scratch = omega (arith, computed .mend-positions) in
+      let roomy : (mendSizes .positions + 7) / 8 ≤ length scratch = omega (arith, computed .mend-positions) in
       let passes = check-passes mendCell mendRecipe (computed .mend-sized) (length table) (length scratch) fits roomy in
       record {
         accepted = call-accepts mendCell mendRecipe (computed .mend-sized) table scratch table′ scratch′ verdict call fits roomy mend-realisable;
@@ -92,7 +92,7 @@ module _ (table scratch table′ scratch′ : List ℕ) (verdict : Verdict) wher
   pub nest-two-called :
       PlanCall (nestCell 8 2) nestRecipe table scratch table′ scratch′ verdict
       → 72 ≤ length table
-      → 72 ≤ length scratch
+      → 9 ≤ length scratch
       → Nested table′ verdict
   nest-two-called call long wide =
       let is : verdict ≡ Accepted =
@@ -109,7 +109,7 @@ module _ (table scratch table′ scratch′ : List ℕ) (verdict : Verdict) wher
   pub nest-one-called :
       PlanCall (nestCell 8 1) nestRecipe table scratch table′ scratch′ verdict
       → 72 ≤ length table
-      → 72 ≤ length scratch
+      → 9 ≤ length scratch
       → verdict ≡ Refused NotRealisable 0
   nest-one-called call long wide =
       call-refuses (nestCell 8 1) nestRecipe (computed .nest-one-sized) table scratch table′ scratch′ verdict call

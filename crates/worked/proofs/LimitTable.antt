@@ -44,14 +44,14 @@ pub record LimitTable : Type 0 where
       (table scratch table′ scratch′ : List ℕ) (verdict : Verdict)
       → PlanCall (glueCell 2) glueRecipe table scratch table′ scratch′ verdict
       → 12 ≤ length table
-      → 12 ≤ length scratch
+      → 2 ≤ length scratch
       → verdict ≡ Accepted
   -- with limit 1 it gives 15, and entry 11, an overfull end, is 0
   pub of-one-place :
       (table scratch table′ scratch′ : List ℕ) (verdict : Verdict)
       → PlanCall (glueCell 1) glueRecipe table scratch table′ scratch′ verdict
       → 12 ≤ length table
-      → 12 ≤ length scratch
+      → 2 ≤ length scratch
       → Overfull table′ verdict
   pub of-overfull-end : OverfullEnd
   -- a stored 67108864 there is the move of the end, a stored 50331648 at 5 gets 18
@@ -62,21 +62,21 @@ pub record LimitTable : Type 0 where
       (table scratch table′ scratch′ : List ℕ) (verdict : Verdict)
       → PlanCall mendCell mendRecipe table scratch table′ scratch′ verdict
       → 108 ≤ length table
-      → 108 ≤ length scratch
+      → 14 ≤ length scratch
       → Mended table′ verdict
   -- a nest with limit 2 is accepted, and "no station is ever overfull"
   pub of-nest-of-two :
       (table scratch table′ scratch′ : List ℕ) (verdict : Verdict)
       → PlanCall (nestCell 8 2) nestRecipe table scratch table′ scratch′ verdict
       → 72 ≤ length table
-      → 72 ≤ length scratch
+      → 9 ≤ length scratch
       → Nested table′ verdict
   -- with limit 1 it gives 15
   pub of-nest-of-one :
       (table scratch table′ scratch′ : List ℕ) (verdict : Verdict)
       → PlanCall (nestCell 8 1) nestRecipe table scratch table′ scratch′ verdict
       → 72 ≤ length table
-      → 72 ≤ length scratch
+      → 9 ≤ length scratch
       → verdict ≡ Refused NotRealisable 0
 
 pub limit-table : LimitTable

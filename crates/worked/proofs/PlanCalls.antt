@@ -29,7 +29,7 @@ use Rattle.planner.specs.Call.{checkPlan, PlanCall}
 use Rattle.worked.specs.Moves.{filled, benchCell, benchRecipe, benchSizes, benchEntry, benchTable}
 use Rattle.worked.specs.Plans.{deadRecipe, endRecipe}
 use Rattle.worked.proofs.BenchPlan.{computed, bench-checked, bench-planned, entry-one, entry-last, dead-recipe, one-end}
-use Rattle.worked.proofs.LentLengths.{check-passes, short-refused, call-accepts, call-refuses}
+use Rattle.worked.proofs.LentLengths.{check-passes, short-refused, short-untouched, call-accepts, call-refuses}
 use Rattle.worked.proofs.OneMoveOpen.{isSole, soleAt, here, entry-at, forced}
 
 -- a do or test of one line at which the bench example's table has the entry x, and no other move is open
@@ -86,13 +86,18 @@ module _ (table scratch table′ scratch′ : List ℕ) (verdict : Verdict) wher
     fits : benchSizes .positions ≤ length table
     fits = omega (arith, computed .positions)
 
-    -- ‡ "scratch 89 gives 14", and any shorter one
-    pub short-scratch : length scratch ≤ 89 → verdict ≡ Refused TooShort 0
-    short-scratch narrow =
-        short-refused benchCell benchRecipe (computed .sized) table scratch table′ scratch′ verdict call fits (omega (arith, computed .positions))
+    -- "11 bytes now give 14", and any fewer
+    module _ (narrow : length scratch ≤ 11) where
+      pub short-scratch : verdict ≡ Refused TooShort 0
+      short-scratch =
+          short-refused benchCell benchRecipe (computed .sized) table scratch table′ scratch′ verdict call fits (omega (arith, computed .positions))
 
-    -- ‡ "90 passes"
-    module _ (wide : 90 ≤ length scratch) where
+      pub short-kept : (table′ ≡ table) × (scratch′ ≡ scratch)
+      short-kept =
+          short-untouched benchCell benchRecipe (computed .sized) table scratch table′ scratch′ verdict call fits (omega (arith, computed .positions))
+
+    -- "and 12 pass"
+    module _ (wide : 12 ≤ length scratch) where
       passes : checkPlan benchCell benchRecipe (length table) (length scratch) ≡ Accepted
       passes = check-passes benchCell benchRecipe (computed .sized) (length table) (length scratch) fits (omega (arith, computed .positions))
 
@@ -142,7 +147,7 @@ module _ (table scratch table′ scratch′ : List ℕ) (verdict : Verdict) wher
   pub dead-called :
       PlanCall benchCell deadRecipe table scratch table′ scratch′ verdict
       → 90 ≤ length table
-      → 90 ≤ length scratch
+      → 12 ≤ length scratch
       → verdict ≡ Refused NotRealisable 0
   dead-called call long wide =
       call-refuses benchCell deadRecipe (computed .dead-sized) table scratch table′ scratch′ verdict call
@@ -152,7 +157,7 @@ module _ (table scratch table′ scratch′ : List ℕ) (verdict : Verdict) wher
   pub end-called :
       PlanCall benchCell endRecipe table scratch table′ scratch′ verdict
       → 6 ≤ length table
-      → 6 ≤ length scratch
+      → 1 ≤ length scratch
       → verdict ≡ Accepted
   end-called call long wide =
       call-accepts benchCell endRecipe (computed .end-sized) table scratch table′ scratch′ verdict call

@@ -11,6 +11,7 @@ pub mod pairs;
 pub mod plans;
 pub mod random;
 pub mod rounds;
+pub mod scratches;
 
 /// For the benchmark, which depends on this package alone.
 pub use independent;

@@ -6,8 +6,8 @@ use crate::damage::{ever_more_damaged, seeded_records};
 use crate::pairs::Pair;
 use crate::random::Random;
 use crate::rounds::{accepted, show_records};
-use crate::TOO_SHORT;
-use independent::{cell_of_bytes, check, entry_of, judge, recipe_of_bytes};
+use crate::{scratches, TOO_SHORT};
+use independent::{cell_of_bytes, check, entry_of, judge, recipe_of_bytes, scratch_bytes};
 use std::fmt::{Display, Formatter, Result};
 
 /// What lies on either side of what is lent, and doesn't belong to it.
@@ -20,7 +20,7 @@ pub struct Handed {
     pub recipe: Vec<u8>,
     /// The length of the table.
     pub entries: usize,
-    /// The length of the scratch.
+    /// The length of the scratch in bytes.
     pub scratch: usize,
 }
 
@@ -40,23 +40,29 @@ pub struct Planned {
     pub table: Vec<u32>,
 }
 
+impl Planned {
+    /// Whether the table was filled, which is so also if 15 is given.
+    fn is_filled(&self) -> bool {
+        matches!(self.refusal, 0 | 15)
+    }
+}
+
 impl Handed {
     /// Two records that pass the rules before 14, with a table and a scratch that are just long enough.
     pub fn of(cell: Vec<u8>, recipe: Vec<u8>) -> Handed {
         let (_, _, sizes) = accepted(&cell, &recipe).expect("the records are accepted");
-        let positions = sizes.positions as usize;
         Handed {
             cell,
             recipe,
-            entries: positions,
-            scratch: positions,
+            entries: sizes.positions as usize,
+            scratch: scratch_bytes(sizes.positions) as usize,
         }
     }
 
     /// The records of a pair that passes the rules before 14, with a table or a scratch that is too short.
     pub fn too_short(cell: Vec<u8>, recipe: Vec<u8>, random: &mut Random) -> Handed {
         let mut handed = Handed::of(cell, recipe);
-        [handed.entries, handed.scratch] = short_lengths(handed.entries, random);
+        [handed.entries, handed.scratch] = scratches::too_short(handed.entries, random);
         handed
     }
 
@@ -66,12 +72,12 @@ impl Handed {
         let (cell, recipe) = seeded_records(pair, random);
         let [entries, scratch] = match accepted(&cell, &recipe) {
             Some((_, _, sizes)) if sizes.positions as usize <= most_positions => {
-                [sizes.positions as usize; 2]
+                [sizes.positions, scratch_bytes(sizes.positions)].map(|length| length as usize)
             }
-            Some((_, _, sizes)) => short_lengths(sizes.positions as usize, random),
+            Some((_, _, sizes)) => scratches::too_short(sizes.positions as usize, random),
             None => [(); 2].map(|()| random.below(100)),
         };
-        // Not more than is lent to the others, for the content is made up each time.
+        // Neither is longer than this, for the content is made up each time.
         Handed {
             cell,
             recipe,
@@ -83,7 +89,7 @@ impl Handed {
     /// The bench example with more and more damage, in all that it is handed. Each step breaks a rule before
     /// all those that were broken so far, which stands beside it.
     pub fn ever_more_damaged(mut self) -> Vec<(Handed, u32)> {
-        self.scratch = 89;
+        self.scratch = 11;
         let mut steps = vec![(self.clone(), 14)];
         // Cell lines 1 and 4 end in state 7, and recipe line 3 takes part 7 too.
         self.cell[1 + 5 + 4] = 7;
@@ -106,23 +112,47 @@ impl Handed {
     /// is neither 0 nor 15, nothing changed; else a table that the judge allows, and no entry past it
     /// changed.
     pub fn plan(&self, random: &mut Random) -> Planned {
+        let planned = self.plan_with(Lent::bytes(self.scratch, random), random);
+        if planned.is_filled() {
+            let owed = self.judged(&planned.table);
+            assert_eq!(planned.refusal, u32::from(owed), "the refusal\n{self}");
+        }
+        planned
+    }
+
+    /// Makes the call that gave `planned` once more, perhaps with a scratch of another length, which holds
+    /// `byte` throughout, or anything if that is none. Unless that makes it too short, the answer and the
+    /// entries are wanted as before.
+    pub fn plan_again(&self, planned: &Planned, byte: Option<u8>, random: &mut Random) -> u32 {
+        let scratch = match byte {
+            Some(byte) => Lent::filled(self.scratch, byte),
+            None => Lent::bytes(self.scratch, random),
+        };
+        let again = self.plan_with(scratch, random);
+        if again.is_filled() {
+            let positions = self.positions();
+            let same = again.table[..positions] == planned.table[..positions];
+            assert!(same, "the scratch has changed the table\n{self}");
+            assert_eq!(again.refusal, planned.refusal, "the refusal\n{self}");
+        }
+        again.refusal
+    }
+
+    /// Makes the call with this scratch, and wants of it what doesn't depend on the entries: the refusal but
+    /// for 15, and what was lent unchanged where it mustn't be written.
+    fn plan_with(&self, mut scratch: Lent<u8>, random: &mut Random) -> Planned {
         let mut table = Lent::table(self.entries, random);
-        let mut scratch = Lent::bytes(self.scratch, random);
         let refusal = self
             .call(|cell, recipe| Library::plan(cell, recipe, table.content(), scratch.content()));
 
         let refused = self.refused_before_15();
+        let before_15 = if refusal == 15 { 0 } else { refusal };
+        assert_eq!(before_15, u32::from(refused), "the refusal\n{self}");
         let written = if refused == 0 { self.positions() } else { 0 };
         table.assert_kept("table", written, self);
         let written = if refused == 0 { self.scratch } else { 0 };
         scratch.assert_kept("scratch", written, self);
-
         let table = table.content().to_vec();
-        let owed = match refused {
-            0 => self.judged(&table),
-            number => number,
-        };
-        assert_eq!(refusal, u32::from(owed), "the refusal\n{self}");
         Planned { refusal, table }
     }
 
@@ -140,7 +170,11 @@ impl Handed {
     /// The first refusal of the rules before 15, or 0.
     fn refused_before_15(&self) -> u8 {
         let refusal = check(&cell_of_bytes(&self.cell), &recipe_of_bytes(&self.recipe));
-        let short = || self.entries.min(self.scratch) < self.positions();
+        let short = || {
+            let positions = self.positions();
+            let needed = scratch_bytes(positions as u64) as usize;
+            self.entries < positions || self.scratch < needed
+        };
         match refusal {
             0 if short() => TOO_SHORT,
             _ => refusal,
@@ -176,6 +210,11 @@ impl Lent<u8> {
     pub(crate) fn bytes(length: usize, random: &mut Random) -> Lent<u8> {
         Lent::of(prior_bytes(length + 2 * MARGIN, random))
     }
+
+    /// The same byte throughout.
+    fn filled(length: usize, byte: u8) -> Lent<u8> {
+        Lent::of(vec![byte; length + 2 * MARGIN])
+    }
 }
 
 impl<T: Clone + PartialEq> Lent<T> {
@@ -204,19 +243,6 @@ impl<T: Clone + PartialEq> Lent<T> {
     }
 }
 
-/// Lengths of a table and a scratch of which one is too short at least, most times by one.
-fn short_lengths(positions: usize, random: &mut Random) -> [usize; 2] {
-    let less = |random: &mut Random| match random.below(3) {
-        0 => random.below(positions),
-        _ => positions - 1,
-    };
-    match random.below(3) {
-        0 => [less(random), positions + random.below(9)],
-        1 => [positions + random.below(9), less(random)],
-        _ => [less(random), less(random)],
-    }
-}
-
 /// What a table may hold before it is planned: anything, entries without a plan, bits that no entry
 /// has, or the same throughout.
 fn prior_table(length: usize, random: &mut Random) -> Vec<u32> {
@@ -231,13 +257,13 @@ fn prior_table(length: usize, random: &mut Random) -> Vec<u32> {
     (0..length).map(|_| entry(random)).collect()
 }
 
-/// What a scratch or a list may hold before: any bytes, marks, or the same throughout.
+/// What a scratch or a list may hold before: any bytes, bits here and there, or the same throughout.
 fn prior_bytes(length: usize, random: &mut Random) -> Vec<u8> {
     let style = random.below(3);
-    let same = random.choose(&[0, 1, 255]);
+    let same = random.choose(&[0, 1, 128, 255]);
     let byte = |random: &mut Random| match style {
         0 => random.byte(),
-        1 => random.below(2) as u8,
+        1 => u8::from(random.coin()) << random.below(8),
         _ => same,
     };
     (0..length).map(|_| byte(random)).collect()

@@ -8,11 +8,11 @@ use against::installs::{owed, Installing};
 use against::pairs::{self, either_pair, Pair, NO_LIMITS};
 use against::plans::Handed;
 use against::random::Random;
-use against::{CellFile, RecipeFile};
+use against::{scratches, CellFile, RecipeFile};
 use independent::{
     candidates, cell_bytes, cell_of_bytes, check, gap_pair, joint_choices, missing_processes,
-    realisable_by_joint_steps, realisable_by_single_moves, recipe_bytes, recipe_of_bytes, Cell,
-    Install, Process, Recipe, Sizes, MOST_LINES, MOST_POSITIONS,
+    realisable_by_joint_steps, realisable_by_single_moves, recipe_bytes, recipe_of_bytes,
+    scratch_bytes, Cell, Install, Process, Recipe, Sizes, MOST_LINES, MOST_POSITIONS,
 };
 
 const BENCH_CELL: &str = include_str!("../../../examples/bench/cell.csv");
@@ -30,6 +30,9 @@ const FEW_JOINT_CHOICES: u64 = 40_000;
 
 /// Pairs with cells of 63 lines, each of which also gets one line more.
 const FULL_PAIRS: usize = 2_000;
+
+/// Pairs whose lists are wanted with just enough scratch, and with one byte less.
+const SCRATCH_PAIRS: usize = 2_000;
 
 /// Pairs that are damaged, each so many times.
 const DAMAGED_PAIRS: usize = 12_000;
@@ -53,8 +56,8 @@ fn handed_with_noise(pair: &Pair, random: &mut Random) -> Handed {
     let mut handed = handed(pair);
     fill_past_lines::<CellFile>(&mut handed.cell, random);
     fill_past_lines::<RecipeFile>(&mut handed.recipe, random);
+    handed.scratch = scratches::long_enough(handed.entries, random);
     handed.entries += random.choose(&[0, 0, 1, 9]);
-    handed.scratch += random.choose(&[0, 0, 1, 9]);
     handed
 }
 
@@ -126,10 +129,31 @@ fn the_bench_example_with_a_line_missing() {
 }
 
 #[test]
+fn the_bench_example_with_other_lengths() {
+    let mut random = Random::new(3);
+    let mut refused = 0;
+    for entries in [0, 11, 12, 89, 90, 91, 8192] {
+        for scratch in [0, 1, 11, 12, 13, 89, 90, 8192] {
+            let handed = Handed {
+                entries,
+                scratch,
+                ..handed(&bench_without(Some(3)))
+            };
+            let short = entries < 90 || scratch < 12;
+            let owed = owed(&handed);
+            assert_eq!(owed.refusal, if short { 14 } else { 0 }, "{handed}");
+            compare_lengths(handed, &owed, [0, 3, 4, 400], &mut random);
+            refused += usize::from(short);
+        }
+    }
+    assert_eq!(refused, 4 * 8 + 3 * 3);
+}
+
+#[test]
 fn seven_bytes_get_the_first_of_two_lines() {
     let handed = handed(&bench_without(Some(0)));
     let mut list = [0xa5; 9];
-    let (mut table, mut scratch) = ([7; 90], [7; 90]);
+    let (mut table, mut scratch) = ([7; 90], [7; 12]);
     let mut install = |list: &mut [u8]| {
         let Handed { cell, recipe, .. } = &handed;
         Library::install(cell, recipe, &mut table, &mut scratch, list)
@@ -384,6 +408,39 @@ fn sixty_three_lines_and_sixty_four() {
     lists.judge();
 }
 
+#[test]
+fn just_enough_scratch_and_one_byte_less() {
+    let mut random = Random::new(28);
+    let mut source = independent::Random(29);
+    let mut seen = scratches::Seen::default();
+    // Cells without a place for a line, and what those with one get.
+    let (mut full, mut some_listed, mut none_listed) = (0, 0, 0);
+    for n in 0..SCRATCH_PAIRS {
+        let mut pair = lacking_pair(n, FEW_POSITIONS[n / 2 % 2], &mut source, &mut random);
+        if n % 4 == 0 {
+            fill_up(&mut pair, MOST_LINES, &mut random);
+        }
+        let mut handed = handed(&pair);
+        let answer = owed(&handed);
+        match (answer.refusal, answer.processes.is_empty()) {
+            (0, true) => none_listed += 1,
+            (0, false) => some_listed += 1,
+            _ => full += 1,
+        }
+        for (scratch, refusal) in [(handed.scratch, answer.refusal), (handed.scratch - 1, 14)] {
+            handed.scratch = scratch;
+            let owed = owed(&handed);
+            assert_eq!(owed.refusal, refusal, "{handed}");
+            let length = some_length(&answer.processes, &mut random);
+            compare_lengths(handed.clone(), &owed, [length], &mut random);
+            seen.note(&handed, refusal.into());
+        }
+    }
+    println!("{full} cells of 64 lines, {some_listed} lists with lines, {none_listed} without");
+    assert!(full >= 400 && some_listed >= 400 && none_listed >= 400);
+    seen.judge(1_000, 20);
+}
+
 /// What was seen of calls that may be refused.
 #[derive(Default)]
 struct Refusals {
@@ -391,7 +448,7 @@ struct Refusals {
     all: [usize; 22],
     /// Those on a record of 64 cell lines.
     full: [usize; 22],
-    /// Those on a table or a scratch that is shorter than there are positions, 13 among them.
+    /// Those on a table or a scratch that is too short for the positions, 13 among them.
     short: [usize; 22],
 }
 
@@ -404,8 +461,10 @@ impl Refusals {
         }
         let (cell, recipe) = (cell_of_bytes(&handed.cell), recipe_of_bytes(&handed.recipe));
         if matches!(check(&cell, &recipe), 0 | 13) {
-            let lent = handed.entries.min(handed.scratch) as u64;
-            self.short[refusal] += usize::from(lent < Sizes::of(&cell, &recipe).positions);
+            let positions = Sizes::of(&cell, &recipe).positions;
+            let short = (handed.entries as u64) < positions
+                || (handed.scratch as u64) < scratch_bytes(positions);
+            self.short[refusal] += usize::from(short);
         }
     }
 
@@ -471,8 +530,15 @@ fn as_many_positions_as_there_may_be() {
     let (cell, recipe) = gap_pair(30, 14, &mut independent::Random(54));
     let handed = Handed::of(cell_bytes(&cell).to_vec(), recipe_bytes(&recipe).to_vec());
     assert_eq!(handed.entries as u64, MOST_POSITIONS);
-    let owed = owed(&handed);
-    assert!(candidates(&cell, &recipe).len() >= 150 && !owed.processes.is_empty());
-    let length = 4 * owed.processes.len() + 1;
-    compare_lengths(handed, &owed, [length], &mut random);
+    let answer = owed(&handed);
+    assert!(candidates(&cell, &recipe).len() >= 150 && !answer.processes.is_empty());
+    let length = 4 * answer.processes.len() + 1;
+    compare_lengths(handed.clone(), &answer, [length], &mut random);
+    let short = Handed {
+        scratch: handed.scratch - 1,
+        ..handed
+    };
+    let refused = owed(&short);
+    assert_eq!(refused.refusal, 14);
+    compare_lengths(short, &refused, [length], &mut random);
 }

@@ -9,8 +9,8 @@ use against::random::Random;
 use against::rounds::accepted;
 use against::{CellFile, Format, RecipeFile};
 use independent::{
-    cell_bytes, dense_pair, long_ways_pair, mixed_pair, recipe_bytes, Cell, Recipe, Sizes,
-    MOST_POSITIONS, MOST_RESOURCES, RUN_BYTES,
+    cell_bytes, dense_pair, long_ways_pair, mixed_pair, recipe_bytes, scratch_bytes, Cell, Recipe,
+    Sizes, MOST_POSITIONS, MOST_RESOURCES, RUN_BYTES,
 };
 
 const BENCH_CELL: &[u8] = include_bytes!("../../../examples/bench/cell.csv");
@@ -27,7 +27,7 @@ fn bench() -> Handed {
         cell,
         recipe,
         entries: 90,
-        scratch: 90,
+        scratch: 12,
     }
 }
 
@@ -40,14 +40,14 @@ fn bench_with(recipe: &[[u32; 7]]) -> Handed {
     }
 }
 
-/// The plan call of two records, with a table and a scratch of so many more places than it needs.
+/// The plan call of two records, with so many more entries, and bytes of scratch, than it needs.
 fn handed((cell, recipe): &(Cell, Recipe), more: usize) -> Handed {
-    let positions = Sizes::of(cell, recipe).positions as usize;
+    let positions = Sizes::of(cell, recipe).positions;
     Handed {
         cell: cell_bytes(cell).to_vec(),
         recipe: recipe_bytes(recipe).to_vec(),
-        entries: positions + more,
-        scratch: positions + more,
+        entries: positions as usize + more,
+        scratch: scratch_bytes(positions) as usize + more,
     }
 }
 
@@ -90,19 +90,19 @@ fn the_bench_example_with_other_lengths() {
     let mut random = Random::new(2);
     let mut refused = 0;
     for entries in (0..100).chain([200, 8192]) {
-        for scratch in [0, 1, 89, 90, 91, 8192] {
+        for scratch in [0, 1, 11, 12, 13, 89, 90, 8192] {
             let handed = Handed {
                 entries,
                 scratch,
                 ..bench()
             };
-            let short = entries < 90 || scratch < 90;
+            let short = entries < 90 || scratch < 12;
             let refusal = handed.plan(&mut random).refusal;
             assert_eq!(refusal, if short { 14 } else { 0 });
             refused += usize::from(short);
         }
     }
-    assert_eq!(refused, 90 * 6 + 12 * 3);
+    assert_eq!(refused, 90 * 8 + 12 * 3);
 }
 
 #[test]
@@ -124,7 +124,7 @@ fn a_station_that_has_left_its_state_cannot_test_again() {
 fn a_recipe_of_one_end_is_accepted() {
     let mut handed = bench_with(&[[0, 0, 0, 0, 0, 0, 0]]);
     handed.entries = 6;
-    handed.scratch = 6;
+    handed.scratch = 1;
     let Planned { refusal, table } = handed.plan(&mut Random::new(4));
     assert_eq!((refusal, table), (0, vec![STAY; 6]));
 }
@@ -175,7 +175,7 @@ fn every_limit_of_every_resource() {
                 cell: pair.cell_bytes(),
                 recipe: pair.recipe_bytes(),
                 entries: 12,
-                scratch: 12,
+                scratch: 2,
             };
             limits_of(&mut handed.cell)[k] = most;
             let expected = match (k, most) {
@@ -272,12 +272,12 @@ fn shaped(resources: u32, parts: u32, points: u32) -> Handed {
         _ => vec![point, 1, 0, all, 0, point + 1, 0],
     };
     let recipe: Rows = (0..points).map(point).collect();
-    let positions = (points * 2 * (resources + 1).pow(parts)) as usize;
+    let positions = points * 2 * (resources + 1).pow(parts);
     Handed {
         cell: generate::record::<CellFile>(&cell),
         recipe: generate::record::<RecipeFile>(&recipe),
-        entries: positions,
-        scratch: positions,
+        entries: positions as usize,
+        scratch: scratch_bytes(positions.into()) as usize,
     }
 }
 
@@ -325,12 +325,12 @@ fn many_joint_states(stations: u32, points: u32, parts: bool) -> Handed {
     };
     let recipe: Rows = (0..points).map(point).collect();
     let placings = if parts { stations + 1 } else { 1 };
-    let positions = (points * 8u32.pow(stations) * placings) as usize;
+    let positions = points * 8u32.pow(stations) * placings;
     Handed {
         cell: generate::record::<CellFile>(&cell),
         recipe: generate::record::<RecipeFile>(&recipe),
-        entries: positions,
-        scratch: positions,
+        entries: positions as usize,
+        scratch: scratch_bytes(positions.into()) as usize,
     }
 }
 

@@ -6,16 +6,22 @@ use against::lists::{self, Form, List};
 use against::pairs::{self, either_pair, limits_leave_range, unlimited, Pair, NO_LIMITS};
 use against::plans::{Handed, Planned};
 use against::random::Random;
+use against::scratches;
 use independent::{
     cell_bytes, cell_of_bytes, dense_pair, is_overfull, joint_choices, judge, kind_of,
-    long_ways_pair, mixed_pair, odometer_pair, plan, recipe_bytes, Book, Cell, Recipe, Sizes,
-    FEW_JOINT_CHOICES, MOST_POSITIONS, STAY,
+    long_ways_pair, mixed_pair, odometer_pair, plan, recipe_bytes, scratch_bytes, Book, Cell,
+    Recipe, Sizes, FEW_JOINT_CHOICES, MOST_POSITIONS, STAY,
 };
 
 /// Small pairs of a cell and a recipe that are planned. Each is also planned with too short a table or
 /// scratch, and so many times after some damage.
 const SMALL_PAIRS: usize = 20_000;
 const DAMAGED: usize = 3;
+
+/// Pairs that are planned with scratches of every length near the least that will do: so many for each
+/// remainder of M modulo 8, out of so many seeded ones.
+const SCRATCH_PAIRS: usize = 150;
+const SCRATCH_SEEDS: usize = 20_000;
 
 /// Great pairs that are planned, each of more positions than this.
 const GREAT_PAIRS: usize = 50;
@@ -48,6 +54,7 @@ struct Seen {
     refusals: [usize; 21],
     /// Plan calls refused with 4 for a limit alone.
     limits_past_range: usize,
+    scratches: scratches::Seen,
     limited: Limited,
     /// Planned tables by R, P and N.
     resources: [usize; 7],
@@ -109,7 +116,8 @@ impl Limited {
     ) {
         let positions = overfull.len();
         let mut wide = vec![0; positions];
-        let refusal = plan(&unlimited(cell), recipe, &mut wide, positions);
+        let scratch = scratch_bytes(positions as u64) as usize;
+        let refusal = plan(&unlimited(cell), recipe, &mut wide, scratch);
         let lost = |p: usize| !overfull[p] && planned.table[p] == 0 && wide[p] != 0;
         match planned.refusal {
             0 => self.narrowed += usize::from((0..positions).any(lost)),
@@ -137,6 +145,12 @@ impl Limited {
 }
 
 impl Seen {
+    /// Notes a plan call.
+    fn note_call(&mut self, handed: &Handed, refusal: u32) {
+        self.refusals[refusal as usize] += 1;
+        self.scratches.note(handed, refusal);
+    }
+
     /// Notes a planned table.
     fn note(&mut self, records: &(Cell, Recipe, Sizes), planned: &Planned) {
         let (cell, recipe, sizes) = records;
@@ -251,16 +265,15 @@ fn plan_and_follow(
 ) {
     let sizes = Sizes::of(&cell, &recipe);
     let positions = sizes.positions as usize;
-    let [entries, scratch] = [(); 2].map(|()| positions + random.choose(&[0, 0, 1, 9]));
     let handed = Handed {
         cell: cell_bytes(&cell).to_vec(),
         recipe: recipe_bytes(&recipe).to_vec(),
-        entries,
-        scratch,
+        entries: positions + random.choose(&[0, 0, 1, 9]),
+        scratch: scratches::long_enough(positions, random),
     };
     let planned = handed.plan(random);
     let records = (cell, recipe, sizes);
-    seen.refusals[planned.refusal as usize] += 1;
+    seen.note_call(&handed, planned.refusal);
     seen.note(&records, &planned);
     for n in 0..lists.count {
         // The first begins at the start, the others mostly where there is an entry.
@@ -334,14 +347,14 @@ fn plan_short((cell, recipe): &(Cell, Recipe), random: &mut Random, seen: &mut S
     let handed = Handed::too_short(cell, recipe, random);
     let refusal = handed.plan(random).refusal;
     assert_eq!(refusal, 14, "{handed}");
-    seen.refusals[14] += 1;
+    seen.note_call(&handed, refusal);
 }
 
 /// Plans after some damage to the records.
 fn plan_damaged(pair: &Pair, random: &mut Random, seen: &mut Seen) {
     let handed = Handed::damaged(pair, MOST_DAMAGED, random);
     let refusal = handed.plan(random).refusal;
-    seen.refusals[refusal as usize] += 1;
+    seen.note_call(&handed, refusal);
     let cell = cell_of_bytes(&handed.cell);
     seen.limits_past_range += usize::from(limits_leave_range(&cell));
 }
@@ -377,6 +390,7 @@ fn small_pairs() {
         }
     }
     assert!(seen.refusals[20] >= 1_000 && seen.limits_past_range >= 1_000);
+    seen.scratches.judge(1_000, 30);
     seen.limited.judge();
     assert!(3 * seen.accepted > SMALL_PAIRS);
     assert!(seen.by_joint_steps > SMALL_PAIRS / 2 && seen.mixed > SMALL_PAIRS / 4);
@@ -399,9 +413,51 @@ fn small_pairs() {
 }
 
 #[test]
+fn scratches_of_every_length_near_the_least() {
+    let mut random = Random::new(17);
+    let mut source = independent::Random(18);
+    let mut seen = scratches::Seen::default();
+    // Pairs by M modulo 8, and those of all that are realisable and that aren't.
+    let mut pairs = [0; 8];
+    let mut answers = [0; 2];
+    for n in 0..SCRATCH_SEEDS {
+        if pairs == [SCRATCH_PAIRS; 8] {
+            break;
+        }
+        let most = [60, 60, 400, 2_000][n / 2 % 4];
+        let (cell, recipe) = either_pair(n, most, &mut source);
+        let positions = Sizes::of(&cell, &recipe).positions as usize;
+        if pairs[positions % 8] == SCRATCH_PAIRS {
+            continue;
+        }
+        pairs[positions % 8] += 1;
+        let mut handed = Handed::of(cell_bytes(&cell).to_vec(), recipe_bytes(&recipe).to_vec());
+        let planned = handed.plan(&mut random);
+        answers[usize::from(planned.refusal == 15)] += 1;
+        let least = handed.scratch;
+        let near = least.saturating_sub(2)..=least + 2;
+        // Others too: any that is long enough, and those with about a byte for each position.
+        let others = [least + random.below(positions), positions - 1, positions];
+        for scratch in near.chain(others) {
+            handed.scratch = scratch;
+            for byte in [Some(0), Some(0xff), None] {
+                let refusal = handed.plan_again(&planned, byte, &mut random);
+                assert_eq!(refusal == 14, 8 * scratch < positions, "{handed}");
+                seen.note(&handed, refusal);
+            }
+        }
+    }
+    println!("pairs by M modulo 8 {pairs:?}, realisable and not {answers:?}");
+    assert_eq!(pairs, [SCRATCH_PAIRS; 8]);
+    assert!(answers.iter().all(|&times| times >= 200));
+    seen.judge(1_000, 500);
+}
+
+#[test]
 fn one_table_for_many_pairs() {
     let mut source = independent::Random(16);
-    let (mut table, mut scratch) = (vec![0; 2_000], vec![0; 2_000]);
+    // Each pair is planned with what the one before has left.
+    let (mut table, mut scratch) = (vec![0; 2_000], vec![0; 250]);
     let mut refusals = [0; 20];
     for n in 0..3_000 {
         let (cell, recipe) = either_pair(n, 2_000, &mut source);

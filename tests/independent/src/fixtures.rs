@@ -7,7 +7,7 @@ use crate::plan::plan;
 use crate::random::Random;
 use crate::recipe::{read_recipe, Recipe, RECIPE_NAMES};
 use crate::simulation::greatest_simulation;
-use crate::sizes::Sizes;
+use crate::sizes::{scratch_bytes, Sizes};
 use crate::table::tests::file_of;
 
 pub(crate) const BENCH_CELL: [&str; 5] = [
@@ -144,9 +144,9 @@ pub(crate) fn some_table(cell: &Cell, recipe: &Recipe, random: &mut Random) -> V
 
 /// What the planner answers for a cell and a recipe, and its table.
 pub(crate) fn planned(cell: &Cell, recipe: &Recipe) -> (u8, Vec<u32>) {
-    let positions = Sizes::of(cell, recipe).positions as usize;
-    let mut table = vec![0; positions];
-    let refusal = plan(cell, recipe, &mut table, positions);
+    let positions = Sizes::of(cell, recipe).positions;
+    let mut table = vec![0; positions as usize];
+    let refusal = plan(cell, recipe, &mut table, scratch_bytes(positions) as usize);
     (refusal, table)
 }
 

@@ -6,7 +6,7 @@ use crate::cell::{Cell, OPERATION};
 use crate::plan::{plan, try_lent};
 use crate::recipe::{Recipe, END};
 use crate::simulation::greatest_simulation;
-use crate::sizes::Sizes;
+use crate::sizes::{scratch_bytes, Sizes};
 use crate::table::MOST_LINES;
 use std::collections::BTreeSet;
 
@@ -20,8 +20,8 @@ pub struct Install {
     pub processes: Vec<Process>,
 }
 
-/// Lists the processes that would do, with a table and a scratch of these lengths, for which this program
-/// has no other use.
+/// Lists the processes that would do, with a table of so many entries and a scratch of so many bytes, for
+/// which this program has no other use.
 pub fn install(cell: &Cell, recipe: &Recipe, table: usize, scratch: usize) -> Install {
     match try_install(cell, recipe, table, scratch) {
         Ok(processes) => Install {
@@ -71,8 +71,9 @@ pub fn realisable_by_joint_steps(cell: &Cell, recipe: &Recipe) -> bool {
 
 /// Whether the planner finds a way from the start.
 pub fn realisable_by_single_moves(cell: &Cell, recipe: &Recipe) -> bool {
-    let positions = Sizes::of(cell, recipe).positions as usize;
-    plan(cell, recipe, &mut vec![0; positions], positions) == 0
+    let positions = Sizes::of(cell, recipe).positions;
+    let mut table = vec![0; positions as usize];
+    plan(cell, recipe, &mut table, scratch_bytes(positions) as usize) == 0
 }
 
 /// Every operation line that isn't in the cell, with states that its resource has and an operation that
@@ -142,8 +143,9 @@ mod tests {
 
     /// What is listed for a cell and a recipe, on which both ways must agree.
     fn listed(cell: &Cell, recipe: &Recipe) -> Vec<Process> {
-        let positions = Sizes::of(cell, recipe).positions as usize;
-        let answer = install(cell, recipe, positions, positions);
+        let positions = Sizes::of(cell, recipe).positions;
+        let scratch = scratch_bytes(positions) as usize;
+        let answer = install(cell, recipe, positions as usize, scratch);
         assert_eq!(answer.refusal, 0);
         let by_joint_steps = missing_processes(cell, recipe, realisable_by_joint_steps);
         assert_eq!(answer.processes, by_joint_steps);
@@ -164,6 +166,14 @@ mod tests {
             .fold(cell, |cell, other| with_process(&cell, other));
         assert!(realisable_by_joint_steps(&all, &recipe));
         assert!(realisable_by_single_moves(&all, &recipe));
+    }
+
+    #[test]
+    fn the_bench_example_wants_90_entries_and_12_bytes() {
+        let (cell, recipe) = (bench_without(3), recipe_of(&BENCH_RECIPE));
+        for (table, scratch, refusal) in [(90, 12, 0), (90, 11, 14), (89, 12, 14), (90, 89, 0)] {
+            assert_eq!(install(&cell, &recipe, table, scratch).refusal, refusal);
+        }
     }
 
     #[test]
@@ -255,27 +265,28 @@ mod tests {
         for n in 3..64 {
             cell = with_process(&cell, [0, 0, n, 0]);
         }
-        let answer = |cell: &Cell, recipe: &Recipe, lent: usize| {
-            let Install { refusal, processes } = install(cell, recipe, lent, lent);
+        let answer = |cell: &Cell, recipe: &Recipe, table: usize, scratch: usize| {
+            let Install { refusal, processes } = install(cell, recipe, table, scratch);
             assert_eq!(processes, [[0; 4]; 0]);
             refusal
         };
-        assert_eq!(answer(&cell, &recipe, 1 << 21), 13);
+        assert_eq!(answer(&cell, &recipe, 1 << 21, 1 << 18), 13);
         cell.to[1] = 3;
-        assert_eq!(answer(&cell, &recipe, 1 << 20), 21);
-        assert_eq!(answer(&cell, &recipe, (1 << 20) - 1), 14);
+        assert_eq!(answer(&cell, &recipe, 1 << 20, 1 << 17), 21);
+        assert_eq!(answer(&cell, &recipe, (1 << 20) - 1, 1 << 17), 14);
+        assert_eq!(answer(&cell, &recipe, 1 << 20, (1 << 17) - 1), 14);
         recipe.then[3] = 16;
-        assert_eq!(answer(&cell, &recipe, 0), 4);
+        assert_eq!(answer(&cell, &recipe, 0, 0), 4);
         cell.limits[3] = 7;
-        assert_eq!(answer(&cell, &recipe, 0), 20);
+        assert_eq!(answer(&cell, &recipe, 0, 0), 20);
         cell.count = 65;
-        assert_eq!(answer(&cell, &recipe, 0), 3);
+        assert_eq!(answer(&cell, &recipe, 0, 0), 3);
     }
 
     #[test]
     fn fifteen_is_not_given() {
         let (cell, recipe) = limit();
-        assert_eq!(install(&cell, &recipe, 1 << 20, (1 << 20) - 1).refusal, 14);
+        assert_eq!(install(&cell, &recipe, 1 << 20, (1 << 17) - 1).refusal, 14);
         let nothing = recipe_of(&["0,1,9,1,0,0,0"]);
         assert_eq!(listed(&cell_of(&BENCH_CELL), &nothing), [[0; 4]; 0]);
     }

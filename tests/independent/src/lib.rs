@@ -46,7 +46,7 @@ pub use recipe::{
 };
 pub use run::{check, run_bytes, run_of_bytes, NextMove, Place, Report, Run, RUN_BYTES};
 pub use simulation::{greatest_simulation, joint_choices};
-pub use sizes::{Configuration, Sizes, MOST_PARTS, MOST_POSITIONS, MOST_RESOURCES};
+pub use sizes::{scratch_bytes, Configuration, Sizes, MOST_PARTS, MOST_POSITIONS, MOST_RESOURCES};
 pub use step::JointStep;
 pub use table::{value_line, value_line_bytes, Reading, Refusal, MOST_LINES};
 pub use walk::walk;

@@ -13,6 +13,11 @@ pub const MOST_PARTS: usize = 8;
 /// The most positions that rule 13 lets pass.
 pub const MOST_POSITIONS: u64 = 1_048_576;
 
+/// How many bytes a scratch needs for so many positions: whole ones, with a bit for each position.
+pub fn scratch_bytes(positions: u64) -> u64 {
+    positions.div_ceil(8)
+}
+
 /// The state of each resource and the place of each part: 0 outside the cell, k + 1 at resource k.
 #[derive(Clone, Copy, Debug, PartialEq, Eq)]
 pub struct Configuration {
@@ -185,6 +190,26 @@ mod tests {
         let points: Vec<&str> = points.iter().map(String::as_str).collect();
         let sizes = Sizes::of(&cell_of(&lines), &recipe_of(&points));
         assert_eq!(sizes.positions, 16 * 262_144 * 5_764_801);
+    }
+
+    #[test]
+    fn a_scratch_has_a_bit_for_each_position() {
+        for (positions, bytes) in [
+            (1, 1),
+            (7, 1),
+            (8, 1),
+            (9, 2),
+            (88, 11),
+            (89, 12),
+            (90, 12),
+            (96, 12),
+            (97, 13),
+            (MOST_POSITIONS - 1, 131_072),
+            (MOST_POSITIONS, 131_072),
+            (MOST_POSITIONS + 1, 131_073),
+        ] {
+            assert_eq!(scratch_bytes(positions), bytes, "{positions} positions");
+        }
     }
 
     #[test]

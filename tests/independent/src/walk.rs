@@ -4,13 +4,13 @@ use crate::cell::read_cell;
 use crate::plan::plan;
 use crate::recipe::read_recipe;
 use crate::run::Run;
-use crate::sizes::Sizes;
+use crate::sizes::{scratch_bytes, Sizes};
 use crate::table::Reading;
 
 /// How many bytes of a file are read.
 const FILE_BYTES: usize = 8192;
 
-/// How many places the table and the scratch have.
+/// How many places the table and the scratch have: entries of the one, bits of the other.
 const PLACES: usize = 8192;
 
 /// What is printed for these files, of which a missing one counts as empty, and this standard input.
@@ -32,7 +32,8 @@ fn try_walk(
     let cell = try_reading(read_cell(start_of(cell)))?;
     let recipe = try_reading(read_recipe(start_of(recipe)))?;
     let mut table = vec![0; PLACES];
-    try_call(plan(&cell, &recipe, &mut table, PLACES))?;
+    let scratch = scratch_bytes(PLACES as u64) as usize;
+    try_call(plan(&cell, &recipe, &mut table, scratch))?;
 
     let sizes = Sizes::of(&cell, &recipe);
     let position = |run: &Run| sizes.position(run.point, &run.configuration);
