@@ -64,6 +64,9 @@
  *     11  Recipe: two lines of a point take, or give, a common part.
  *     12  Recipe: a do's `then` or a test's `then` or `else` is N or more, N being the number of
  *         points.
+ *     22  Plan and install: no chain of `then` and `else` from point 0 reaches some point of the recipe.
+ *         The readers, check and the run's calls don't try it, so that such a recipe is read, checked and
+ *         followed with a stored table as any other.
  *     13  M exceeds CELLPLAN_MOST_POSITIONS.
  *     14  The table has fewer than M entries, or the scratch of plan or install fewer than (M + 7) / 8
  *         bytes, a bit for each position. Of read_cell, read_recipe and fresh: the buffer lent for the
@@ -79,8 +82,8 @@
  *         1, 2 or 3 is open only if no resource holds more parts than its limit after it; what one held
  *         before doesn't matter.
  *     19  Report: the run is at an end.
- * A call that is handed records tries the cell's rules from 3 on, then the recipe's from 3 on, then
- * those from 13 on that are its own; read_limits tries the cell's from 3 on, and then its file's from 1
+ * A call that is handed records tries the cell's rules from 3 on, then the recipe's from 3 to 12, then 22
+ * if it plans, then those from 13 on that are its own; read_limits tries the cell's from 3 on, and then its file's from 1
  * on. A call that refuses changes nothing, but for read_cell and read_recipe, which write a record of no
  * lines, and for the planner where it refuses with 15.
  */
@@ -165,7 +168,7 @@ size_t cellplan_line_length(const uint8_t *file, size_t file_length, size_t n);
 
 /*
  * Checks a cell record and a recipe record: the result is the first refusal of the rules 3 to 13, 20 in
- * its place among them, or 0. Which line breaks a rule is not said; a reader says that of the file.
+ * its place among them and 22 not, or 0. Which line breaks a rule is not said; a reader says that of the file.
  */
 uint32_t cellplan_check(const uint8_t *cell, size_t cell_length,
                         const uint8_t *recipe, size_t recipe_length);
@@ -175,8 +178,8 @@ uint32_t cellplan_check(const uint8_t *cell, size_t cell_length,
  * which the recipe can be followed to an end, or for ever, whatever the outcomes of its tests, while no
  * resource ever holds more parts than its limit, at the position itself and at an end too; it is then the
  * move to make there. The scratch, a bit for each position in (M + 7) / 8 bytes or more, may hold anything
- * before. The result is 0, or the refusal, of which those from 13 on are tried in the order 13, 14, 15; it
- * is 15 if position 0 has entry 0. Accepted, and refused with 15, the entries past M keep their content,
+ * before. The result is 0, or the refusal, of which the last are tried in the order 22, 13, 14, 15; it is
+ * 15 if position 0 has entry 0. Accepted, and refused with 15, the entries past M keep their content,
  * and what the scratch then holds is free; refused otherwise, both stay as they were.
  */
 uint32_t cellplan_plan(const uint8_t *cell, size_t cell_length,
@@ -190,7 +193,7 @@ uint32_t cellplan_plan(const uint8_t *cell, size_t cell_length,
  * line has a resource of the cell, states that this resource has already, and the operation of a do or a
  * test of the recipe. Nothing is listed if the cell can build the recipe as it is. The result is
  *     refusal * 2^32 + count,
- * with count 0 if refused. The refusals from 13 on are tried in the order 13, 14, 21; the last is given
+ * with count 0 if refused. The last refusals are tried in the order 22, 13, 14, 21; the last of them is given
  * also if nothing is lacking, and 15 never. Accepted, the list gets, for each process,
  *     resource, from, operation, to,
  * rising by these four numbers in this order, each once, as far as whole ones fit. The bytes of the list

@@ -50,10 +50,10 @@ pub fn install(
         };
     };
     let sizes = positions::measure(cell, recipe);
-    let lent = planner::check_lent(sizes, table.len(), scratch.len());
-    let Verdict::Accepted = lent else {
+    let called = planner::check_call(recipe, sizes, table.len(), scratch.len());
+    let Verdict::Accepted = called else {
         return Listing {
-            verdict: lent,
+            verdict: called,
             count: 0,
         };
     };

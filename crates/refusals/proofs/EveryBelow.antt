@@ -1,7 +1,7 @@
 -- Tests of every number below a bound, and how many pass. Assumes nothing.
 use mathlib.Core.Path.{_≡_, refl, sym, subst, _∙_}
-use mathlib.Core.Logic.{⊎-elim}
-use mathlib.Core.Bool.{Bool, true, false, cond, not, _&&_, and-true}
+use mathlib.Core.Logic.{_⊎_, inl, inr, ⊎-elim}
+use mathlib.Core.Bool.{Bool, true, false, cond, not, _&&_, and-true, true≢false}
 use Prim.Native.Nat.{ℕ, zero, suc, _+_, _<_, _≤_}
 use native.Mathlib.Nat.{le-of-suc-le-suc, eq-or-lt-of-le, not-suc-le-zero}
 use native.Mathlib.Numerals.{add-one}
@@ -10,7 +10,7 @@ use lib.Dec.{eqb}
 use borrow.Author.Tests.{eq-eqb, ne-eqb}
 use Rattle.refusals.specs.Search.{anyBelow, allBelow, countBelow}
 use Rattle.refusals.proofs.Scan.{any-hit}
-use Rattle.refusals.proofs.Verdicts.{and-left, and-right}
+use Rattle.refusals.proofs.Verdicts.{and-left, and-right, or-cases}
 
 module _ (f : ℕ → Bool) where
   pub all-by : (n : ℕ) → ((i : ℕ) → i < n → f i ≡ true) → allBelow f n ≡ true
@@ -55,6 +55,19 @@ module _ (f : ℕ → Bool) where
       decide : (b : Bool) → f i ≡ b → f i ≡ false
       decide false e = e
       decide true e = let z : true ≡ false = sym (any-hit f i n low e) ∙ nowhere in cc
+
+  -- where a search finds one
+  pub any-some : (n : ℕ) → anyBelow f n ≡ true → (i : ℕ) × ((i < n) × (f i ≡ true))
+  unfolding anyBelow
+  any-some zero e = absurd (true≢false (sym e))
+  any-some (suc n) e = decide (any-some n) (or-cases (f n) (anyBelow f n) e)
+    where
+      decide :
+          (anyBelow f n ≡ true → (i : ℕ) × ((i < n) × (f i ≡ true)))
+          → (f n ≡ true) ⊎ (anyBelow f n ≡ true)
+          → (i : ℕ) × ((i < suc n) × (f i ≡ true))
+      decide on (inl here) = (n, (omega arith, here))
+      decide on (inr later) = let s = on later in let low : s .0 < n = s .1 .0 in (s .0, (omega arith, s .1 .1))
 
   pub count-none : (n : ℕ) → ((i : ℕ) → i < n → f i ≡ false) → countBelow f n ≡ 0
   unfolding countBelow

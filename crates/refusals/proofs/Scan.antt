@@ -11,6 +11,11 @@ use lib.Dec.{eqb}
 use borrow.Author.Tests.{eq-eqb, ne-eqb, eqb-true, eqb-false}
 use Rattle.refusals.specs.Search.{firstBelow, anyBelow, greatestBelow}
 
+-- the second of two tests holds
+pub or-true : (b t : Bool) → t ≡ true → (b || t) ≡ true
+or-true true t e = refl
+or-true false t e = e
+
 module _ (f : ℕ → Bool) where
   pub any-more : (i : ℕ) → anyBelow f i ≡ false → f i ≡ false → anyBelow f (i + 1) ≡ false
   unfolding anyBelow
@@ -27,10 +32,6 @@ module _ (f : ℕ → Bool) where
     where
       last : f n ≡ true → (f n || anyBelow f n) ≡ true
       last h = rw h
-
-      or-true : (b t : Bool) → t ≡ true → (b || t) ≡ true
-      or-true true t e = refl
-      or-true false t e = e
 
   pub first-more : (i : ℕ) → firstBelow f i ≡ i → f i ≡ false → firstBelow f (i + 1) ≡ i + 1
   unfolding firstBelow

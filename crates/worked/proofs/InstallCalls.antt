@@ -17,6 +17,7 @@ use Rattle.recipe.specs.declared.Recipe.{Recipe}
 use Rattle.positions.specs.Sizes.{sizesOf}
 use Rattle.positions.specs.Rules.{checkSizes}
 use Rattle.simulation.specs.Simulation.{Realisable}
+use Rattle.reached.specs.Reached.{rule22}
 use Rattle.planner.specs.Call.{checkPlan}
 use Rattle.install.specs.declared.Listing.{Listing}
 use Rattle.install.specs.Order.{lineBytes, bytesOf, filledWith}
@@ -27,6 +28,7 @@ use Rattle.install.proofs.OneList.{listed-once}
 use Rattle.worked.specs.Moves.{benchCell, benchRecipe}
 use Rattle.worked.specs.Installed.{line, untestedCell, unfedCell, testingLines, feedingLines, turnedCell, turnedRecipe, turningLines}
 use Rattle.worked.specs.Installed.{singleCell, singleRecipe, singleLines, fullCell}
+use Rattle.worked.proofs.LedRecipes.{led as reached}
 use Rattle.worked.proofs.LentLengths.{check-passes, check-short}
 use Rattle.worked.proofs.BenchPlan.{computed as bench, bench-planned}
 use Rattle.worked.proofs.InstallPlans.{computed, untested-fails, untested-listed, unfed-fails, unfed-listed, turned-fails}
@@ -73,13 +75,12 @@ seven-filled l m list seven =
     let once : length list / 4 ≡ 1 = omega arith in
     ap (λ (n : ℕ). bytesOf (take n (l ∷ m ∷ [])) ++ drop (length (bytesOf (take n (l ∷ m ∷ [])))) list) once
 
--- the answers, of any cell and recipe that pass the rules before 14, for a table that is not too short
+-- a call that is refused, at no line
 module _
-    (c : Cell) (r : Recipe) (sized : checkSizes c r ≡ Accepted) (table scratch list table′ scratch′ list′ : List ℕ) (answer : Listing)
+    (c : Cell) (r : Recipe) (table scratch list table′ scratch′ list′ : List ℕ) (answer : Listing)
     (call : InstallCall c r table scratch list table′ scratch′ list′ answer)
-    (long : sizesOf c r .positions ≤ length table)
   where
-    refuses :
+    pub refuses :
         (refusal : Refusal)
         → checkInstall c r (length table) (length scratch) ≡ Refused refusal 0
         → Refuses refusal table scratch list table′ scratch′ list′ answer
@@ -93,15 +94,22 @@ module _
           same-list = none-filled (call .lines) list list′ (call .list-is) none;
         }
 
+-- the answers, of any cell and recipe that pass the rules before 14, for a table that is not too short
+module _
+    (c : Cell) (r : Recipe) (sized : checkSizes c r ≡ Accepted) (led : rule22 r ≡ Accepted)
+    (table scratch list table′ scratch′ list′ : List ℕ) (answer : Listing)
+    (call : InstallCall c r table scratch list table′ scratch′ list′ answer)
+    (long : sizesOf c r .positions ≤ length table)
+  where
     pub call-short : length scratch < (sizesOf c r .positions + 7) / 8 → Refuses TooShort table scratch list table′ scratch′ list′ answer
     call-short narrow =
-        let short = check-short c r sized (length table) (length scratch) long narrow in
-        refuses TooShort (sym (plan-refused c r (length table) (length scratch) (sym short) refl))
+        let short = check-short c r sized led (length table) (length scratch) long narrow in
+        refuses c r table scratch list table′ scratch′ list′ answer call TooShort (sym (plan-refused c r (length table) (length scratch) (sym short) refl))
 
     -- and a scratch that isn't either
     module _ (wide : (sizesOf c r .positions + 7) / 8 ≤ length scratch) where
       before : checkPlan c r (length table) (length scratch) ≡ Accepted
-      before = check-passes c r sized (length table) (length scratch) long wide
+      before = check-passes c r sized led (length table) (length scratch) long wide
 
       module _ (free : c .count < 64) where
         passes : checkInstall c r (length table) (length scratch) ≡ Accepted
@@ -132,7 +140,7 @@ module _
 
       pub call-full : c .count ≡ 64 → Refuses FullCell table scratch list table′ scratch′ list′ answer
       call-full whole =
-          refuses FullCell
+          refuses c r table scratch list table′ scratch′ list′ answer call FullCell
           (sym (full-refused c r (length table) (length scratch) before whole))
 
 module _ (table scratch list table′ scratch′ list′ : List ℕ) (answer : Listing) where
@@ -145,7 +153,7 @@ module _ (table scratch list table′ scratch′ list′ : List ℕ) (answer : L
       pub untested-called : Lists testingLines 1 (call .lines) list list′ answer
       unfolding testingLines
       untested-called =
-          call-lists untestedCell benchRecipe (computed .untested .sized) table scratch list table′ scratch′ list′ answer call
+          call-lists untestedCell benchRecipe (computed .untested .sized) (reached .bench) table scratch list table′ scratch′ list′ answer call
           (omega (arith, computed .untested-positions)) (omega (arith, computed .untested-positions)) (ltb-true _ 64 (computed .untested .free))
           untested-fails testingLines 1 untested-listed refl
 
@@ -162,7 +170,7 @@ module _ (table scratch list table′ scratch′ list′ : List ℕ) (answer : L
       pub unfed-called : Lists feedingLines 2 (call .lines) list list′ answer
       unfolding feedingLines
       unfed-called =
-          call-lists unfedCell benchRecipe (computed .unfed .sized) table scratch list table′ scratch′ list′ answer call
+          call-lists unfedCell benchRecipe (computed .unfed .sized) (reached .bench) table scratch list table′ scratch′ list′ answer call
           (omega (arith, computed .unfed-positions)) (omega (arith, computed .unfed-positions)) (ltb-true _ 64 (computed .unfed .free))
           unfed-fails feedingLines 2 unfed-listed refl
 
@@ -178,7 +186,7 @@ module _ (table scratch list table′ scratch′ list′ : List ℕ) (answer : L
       → Lists turningLines 3 (call .lines) list list′ answer
   unfolding turningLines
   turned-called call long wide =
-      call-lists turnedCell turnedRecipe (computed .turned .sized) table scratch list table′ scratch′ list′ answer call
+      call-lists turnedCell turnedRecipe (computed .turned .sized) (reached .turned) table scratch list table′ scratch′ list′ answer call
       (omega (arith, computed .turned-positions)) (omega (arith, computed .turned-positions)) (ltb-true _ 64 (computed .turned .free))
       turned-fails turningLines 3 turned-listed refl
 
@@ -190,7 +198,7 @@ module _ (table scratch list table′ scratch′ list′ : List ℕ) (answer : L
       → Lists singleLines 1 (call .lines) list list′ answer
   unfolding singleLines
   single-called call long wide =
-      call-lists singleCell (singleRecipe 2) (computed .single .sized) table scratch list table′ scratch′ list′ answer call
+      call-lists singleCell (singleRecipe 2) (computed .single .sized) (reached .single 2) table scratch list table′ scratch′ list′ answer call
       (omega (arith, computed .single-positions)) (omega (arith, computed .single-positions)) (ltb-true _ 64 (computed .single .free))
       single-fails singleLines 1 single-listed refl
 
@@ -202,7 +210,7 @@ module _ (table scratch list table′ scratch′ list′ : List ℕ) (answer : L
       → NoneNeeded list list′ answer
   unfolding benchCell
   bench-needs-none call long wide =
-      call-needs-none benchCell benchRecipe (bench .sized) table scratch list table′ scratch′ list′ answer call
+      call-needs-none benchCell benchRecipe (bench .sized) (reached .bench) table scratch list table′ scratch′ list′ answer call
       (omega (arith, bench .positions)) (omega (arith, bench .positions)) (ltb-true 5 64 refl) (bench-planned .accepted-holds refl)
 
   -- with 11 bytes of scratch
@@ -212,7 +220,7 @@ module _ (table scratch list table′ scratch′ list′ : List ℕ) (answer : L
       → length scratch ≤ 11
       → Refuses TooShort table scratch list table′ scratch′ list′ answer
   bench-short call long narrow =
-      call-short benchCell benchRecipe (bench .sized) table scratch list table′ scratch′ list′ answer call
+      call-short benchCell benchRecipe (bench .sized) (reached .bench) table scratch list table′ scratch′ list′ answer call
       (omega (arith, bench .positions)) (omega (arith, bench .positions))
 
   -- a cell of 64 lines
@@ -222,5 +230,5 @@ module _ (table scratch list table′ scratch′ list′ : List ℕ) (answer : L
       → 1 ≤ length scratch
       → Refuses FullCell table scratch list table′ scratch′ list′ answer
   full-called call long wide =
-      call-full fullCell (singleRecipe 1) (computed .full-sized) table scratch list table′ scratch′ list′ answer call
+      call-full fullCell (singleRecipe 1) (computed .full-sized) (reached .single 1) table scratch list table′ scratch′ list′ answer call
       (omega (arith, computed .full-positions)) (omega (arith, computed .full-positions)) (computed .full-count)

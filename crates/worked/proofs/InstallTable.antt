@@ -11,6 +11,7 @@ use Rattle.recipe.specs.declared.Recipe.{Recipe}
 use Rattle.positions.specs.Sizes.{sizesOf}
 use Rattle.positions.specs.Rules.{checkSizes}
 use Rattle.simulation.specs.Simulation.{Realisable}
+use Rattle.reached.specs.Reached.{rule22}
 use Rattle.install.specs.declared.Listing.{Listing}
 use Rattle.install.specs.Call.{InstallCall}
 use Rattle.worked.specs.Moves.{benchCell, benchRecipe}
@@ -78,6 +79,7 @@ pub record InstallTable : Type 0 where
   pub of-full-cells :
       (c : Cell) (r : Recipe)
       → checkSizes c r ≡ Accepted
+      → rule22 r ≡ Accepted
       → (table scratch list table′ scratch′ list′ : List ℕ) (answer : Listing)
       → InstallCall c r table scratch list table′ scratch′ list′ answer
       → sizesOf c r .positions ≤ length table

@@ -4,14 +4,13 @@ use mathlib.Core.Path.{_≡_, refl, sym, subst}
 use mathlib.Core.Logic.{_⊎_, inl, inr}
 use mathlib.Core.Bool.{Bool, true, false, not, _||_, true≢false}
 use mathlib.Core.List.{List, [], _∷_}
-use Prim.Native.Nat.{ℕ, zero, suc, _+_, _<_}
-use native.Mathlib.Omega.{arith}
+use Prim.Native.Nat.{ℕ, _+_}
 use lib.ListN.{length, getD}
 use lib.Dec.{eqb, ltb, leb}
 use borrow.Author.Tests.{eqb-true, eqb-false, ltb-true, leb-true}
 use Rattle.refusals.specs.declared.Verdict.the-variants.{Accepted}
-use Rattle.refusals.specs.Search.{anyBelow, allBelow, every}
-use Rattle.refusals.proofs.EveryBelow.{all-at}
+use Rattle.refusals.specs.Search.{allBelow, every}
+use Rattle.refusals.proofs.EveryBelow.{all-at, any-some}
 use Rattle.refusals.proofs.Verdicts.{and-left, and-right, or-cases}
 use Rattle.cell.specs.declared.Cell.{Cell}
 use Rattle.cell.specs.declared.OperationLine.{OperationLine}
@@ -100,19 +99,6 @@ pub record Accounted (c : Cell) (r : Recipe) (lines : List OperationLine) (other
   pub candidates : every (isCandidate c r) lines ≡ true
   pub covered : candidatesPass c r (isAccounted c r lines others) ≡ true
   pub order : rises lines ≡ true
-
--- where a search finds one
-any-some : (f : ℕ → Bool) (n : ℕ) → anyBelow f n ≡ true → (i : ℕ) × ((i < n) × (f i ≡ true))
-unfolding anyBelow
-any-some f zero e = absurd (true≢false (sym e))
-any-some f (suc n) e = decide (any-some f n) (or-cases (f n) (anyBelow f n) e)
-  where
-    decide :
-        (anyBelow f n ≡ true → (i : ℕ) × ((i < n) × (f i ≡ true)))
-        → (f n ≡ true) ⊎ (anyBelow f n ≡ true)
-        → (i : ℕ) × ((i < suc n) × (f i ≡ true))
-    decide on (inl here) = (n, (omega arith, here))
-    decide on (inr later) = let s = on later in let low : s .0 < n = s .1 .0 in (s .0, (omega arith, s .1 .1))
 
 module _ (c : Cell) (r : Recipe) where
   -- moves and ranks with the line show that it mends the cell

@@ -16,17 +16,19 @@ use Rattle.positions.specs.Sizes.{sizesOf}
 use Rattle.positions.specs.Rules.{recordRules, checkRecords, checkSizes, rule14}
 use Rattle.positions.proofs.AcceptedRecords.{records-ok, few-ok}
 use Rattle.simulation.specs.Simulation.{Realisable}
-use Rattle.planner.specs.Call.{lentRules, rule14Scratch, checkPlan, PlanCall}
+use Rattle.reached.specs.Reached.{rule22}
+use Rattle.planner.specs.Call.{planRules, rule14Scratch, checkPlan, PlanCall}
 use Rattle.planner.proofs.Demands.{realisable-accepted, unrealisable-refused}
 
 -- the rules before 15, for lent lengths
-module _ (c : Cell) (r : Recipe) (sized : checkSizes c r ≡ Accepted) (table scratch : ℕ) (long : sizesOf c r .positions ≤ table) where
+module _ (c : Cell) (r : Recipe) (sized : checkSizes c r ≡ Accepted) (led : rule22 r ≡ Accepted) (table scratch : ℕ) (long : sizesOf c r .positions ≤ table) where
   checked : {v : Verdict} → v ≡ rule14Scratch (sizesOf c r) scratch → checkPlan c r table scratch ≡ v
-  unfolding checkRecords checkPlan lentRules rule14
+  unfolding checkRecords checkPlan planRules rule14
   checked e =
       sym
-      (part-accepts (recordRules c r) (lentRules (sizesOf c r) table scratch) refl (records-ok c r sized)
-      (accepts _ refl (few-ok c r sized) (accepts _ refl (noLine-kept TooShort _ (le-ltb _ _ long)) (decides e))))
+      (part-accepts (recordRules c r) (planRules r (sizesOf c r) table scratch) refl (records-ok c r sized)
+      (accepts _ refl led
+      (accepts _ refl (few-ok c r sized) (accepts _ refl (noLine-kept TooShort _ (le-ltb _ _ long)) (decides e)))))
 
   pub check-passes : (sizesOf c r .positions + 7) / 8 ≤ scratch → checkPlan c r table scratch ≡ Accepted
   unfolding rule14Scratch
@@ -38,13 +40,13 @@ module _ (c : Cell) (r : Recipe) (sized : checkSizes c r ≡ Accepted) (table sc
 
 -- the answers, whatever is lent
 module _
-    (c : Cell) (r : Recipe) (sized : checkSizes c r ≡ Accepted) (table scratch table′ scratch′ : List ℕ) (verdict : Verdict)
+    (c : Cell) (r : Recipe) (sized : checkSizes c r ≡ Accepted) (led : rule22 r ≡ Accepted) (table scratch table′ scratch′ : List ℕ) (verdict : Verdict)
     (call : PlanCall c r table scratch table′ scratch′ verdict)
     (long : sizesOf c r .positions ≤ length table)
   where
     module _ (narrow : length scratch < (sizesOf c r .positions + 7) / 8) where
       short : checkPlan c r (length table) (length scratch) ≡ Refused TooShort 0
-      short = check-short c r sized (length table) (length scratch) long narrow
+      short = check-short c r sized led (length table) (length scratch) long narrow
 
       pub short-refused : verdict ≡ Refused TooShort 0
       short-refused = call .answer ∙ sym (refuses _ refl short) ∙ short
@@ -54,7 +56,7 @@ module _
 
     module _ (wide : (sizesOf c r .positions + 7) / 8 ≤ length scratch) where
       passes : checkPlan c r (length table) (length scratch) ≡ Accepted
-      passes = check-passes c r sized (length table) (length scratch) long wide
+      passes = check-passes c r sized led (length table) (length scratch) long wide
 
       pub call-accepts : Realisable c r → verdict ≡ Accepted
       call-accepts = realisable-accepted c r table scratch table′ scratch′ verdict call passes

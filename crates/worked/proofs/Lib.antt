@@ -1,8 +1,9 @@
 -- The worked examples marked ‡: the files, the moves, the limit, a list of calls and the plan, and the one table of all of them.
 -- Then those of request 1, with a table of their own: records and files with limits, plans of cells with limits, stored tables. And
 -- those of request 2: cells that lack an operation line, the lines that mend them, and the answers of install calls. And those of
--- request 3: scratches of so many bytes.
+-- request 3: scratches of so many bytes. And those of request 4: points that nothing leads to.
 mod Certificates
+mod LedRecipes
 mod LentLengths
 mod Files
 mod BenchMoves
@@ -26,3 +27,7 @@ mod InstallPlans
 mod InstallCalls
 pub mod InstallTable
 pub mod ScratchTable
+mod UnreachedRecipes
+mod UnreachedCalls
+mod StoredRun
+pub mod UnreachedTable

@@ -8,3 +8,4 @@ pub mod LimitedPlans
 pub mod LimitFiles
 pub mod Installed
 pub mod InstalledPlans
+pub mod Unreached

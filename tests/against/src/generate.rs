@@ -1,5 +1,6 @@
 //! Files for the comparison: good ones, and every kind of damage to them.
 
+use crate::points;
 use crate::random::Random;
 use crate::{CellFile, Columns, Format, LimitsFile, RecipeFile};
 use independent::{MOST_LINES, MOST_RESOURCES};
@@ -27,7 +28,7 @@ mod cell {
 }
 
 /// Columns of a recipe row.
-mod recipe {
+pub(crate) mod recipe {
     pub const POINT: usize = 0;
     pub const KIND: usize = 1;
     pub const OP: usize = 2;
@@ -318,6 +319,7 @@ impl Generate for RecipeFile {
                 _ => push_do(&mut rows, point, 1 + random.below(4), then, random),
             }
         }
+        points::lead_to_most(&mut rows, random);
         rows
     }
 

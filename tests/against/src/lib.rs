@@ -9,6 +9,7 @@ pub mod installs;
 pub mod lists;
 pub mod pairs;
 pub mod plans;
+pub mod points;
 pub mod random;
 pub mod rounds;
 pub mod scratches;
@@ -24,6 +25,9 @@ use independent::{
 
 /// The refusal of a lent buffer that is too short.
 pub const TOO_SHORT: u8 = 14;
+
+/// The refusal of a recipe with an unreached point, in calls that plan.
+pub const UNREACHED: u8 = 22;
 
 mod c {
     extern "C" {

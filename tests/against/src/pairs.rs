@@ -2,6 +2,7 @@
 //! entries to try on them.
 
 use crate::generate::{self, Rows, DO, END, IN, INTERNAL, OPERATION, OUT, TEST};
+use crate::points;
 use crate::random::Random;
 use crate::{CellFile, RecipeFile};
 use independent::{
@@ -22,7 +23,13 @@ pub const THREE_GIVEN: [&str; 4] = [
     "3,0,0,0,0,0,0",
 ];
 
+/// Points that are pasted behind the bench example's recipe and forgotten: an end, and two dos that lead
+/// to each other.
+pub const PASTED_END: &str = "5,0,0,0,0,0,0\n";
+pub const PASTED_LOOP: &str = "5,1,1,0,1,6,0\n6,1,3,1,0,5,0\n";
+
 /// The value lines of a cell, its limits, and the value lines of a recipe.
+#[derive(Clone)]
 pub struct Pair {
     pub cell: Rows,
     pub limits: [u8; MOST_RESOURCES],
@@ -128,8 +135,9 @@ impl Shape {
     }
 }
 
-/// A cell and a recipe of at most this many positions that are accepted. Both use the same few
-/// operations and the cell few ports, so that much of it fits together. Two cells in three have limits.
+/// A cell and a recipe of at most this many positions that pass the rules 3 to 12. Both use the same few
+/// operations and the cell few ports, so that much of it fits together. Two cells in three have limits, and
+/// about one recipe in ten has unreached points.
 pub fn good_pair(most_positions: u64, random: &mut Random) -> Pair {
     let shape = Shape::new(most_positions, random);
     let operations: Vec<u32> = (0..1 + random.below(3))
@@ -146,7 +154,7 @@ pub fn good_pair(most_positions: u64, random: &mut Random) -> Pair {
 }
 
 /// A cell and a recipe of at most this many positions, many of which are realisable. Every other pair has
-/// limits.
+/// limits, and about one recipe in ten has unreached points.
 pub fn either_pair(
     n: usize,
     most_positions: u64,
@@ -266,6 +274,7 @@ fn recipe_rows(shape: &Shape, operations: &[u32], random: &mut Random) -> Rows {
             _ => push_do(&mut rows, shape, point, then, operations, random),
         }
     }
+    points::lead_to_most(&mut rows, random);
     rows
 }
 

@@ -7,7 +7,7 @@ use crate::pairs::Pair;
 use crate::random::Random;
 use crate::rounds::{accepted, show_records};
 use crate::{scratches, TOO_SHORT};
-use independent::{cell_of_bytes, check, entry_of, judge, recipe_of_bytes, scratch_bytes};
+use independent::{cell_of_bytes, check_to_plan, entry_of, judge, recipe_of_bytes, scratch_bytes};
 use std::fmt::{Display, Formatter, Result};
 
 /// What lies on either side of what is lent, and doesn't belong to it.
@@ -48,7 +48,7 @@ impl Planned {
 }
 
 impl Handed {
-    /// Two records that pass the rules before 14, with a table and a scratch that are just long enough.
+    /// Two records that pass the rules 3 to 13, with a table and a scratch that are just long enough.
     pub fn of(cell: Vec<u8>, recipe: Vec<u8>) -> Handed {
         let (_, _, sizes) = accepted(&cell, &recipe).expect("the records are accepted");
         Handed {
@@ -59,15 +59,15 @@ impl Handed {
         }
     }
 
-    /// The records of a pair that passes the rules before 14, with a table or a scratch that is too short.
+    /// The records of a pair that passes the rules 3 to 13, with a table or a scratch that is too short.
     pub fn too_short(cell: Vec<u8>, recipe: Vec<u8>, random: &mut Random) -> Handed {
         let mut handed = Handed::of(cell, recipe);
         [handed.entries, handed.scratch] = scratches::too_short(handed.entries, random);
         handed
     }
 
-    /// The records of a pair after some damage. Those that are accepted get what they need, but not if
-    /// there are more positions than this.
+    /// The records of a pair after some damage. Those that pass the rules 3 to 13 get what they need, but not
+    /// if there are more positions than this.
     pub fn damaged(pair: &Pair, most_positions: usize, random: &mut Random) -> Handed {
         let (cell, recipe) = seeded_records(pair, random);
         let [entries, scratch] = match accepted(&cell, &recipe) {
@@ -96,6 +96,9 @@ impl Handed {
         self.cell[1 + 4 * 5 + 4] = 7;
         self.recipe[1 + 3 * 7 + 3] = 129;
         steps.push((self.clone(), 13));
+        // The test at point 1 leads to point 2 at both outcomes, and so nothing to point 3.
+        self.recipe[1 + 7 + 6] = 2;
+        steps.push((self.clone(), 22));
         let records = (self.cell.clone(), self.recipe.clone());
         for ((cell, recipe), refusal) in ever_more_damaged(records) {
             let handed = Handed {
@@ -169,7 +172,7 @@ impl Handed {
 
     /// The first refusal of the rules before 15, or 0.
     fn refused_before_15(&self) -> u8 {
-        let refusal = check(&cell_of_bytes(&self.cell), &recipe_of_bytes(&self.recipe));
+        let refusal = check_to_plan(&cell_of_bytes(&self.cell), &recipe_of_bytes(&self.recipe));
         let short = || {
             let positions = self.positions();
             let needed = scratch_bytes(positions as u64) as usize;
@@ -181,7 +184,7 @@ impl Handed {
         }
     }
 
-    /// How many positions there are; 0 if the records are refused.
+    /// How many positions there are; 0 if the records break one of the rules 3 to 13.
     fn positions(&self) -> usize {
         let records = accepted(&self.cell, &self.recipe);
         records.map_or(0, |(_, _, sizes)| sizes.positions as usize)

@@ -60,7 +60,7 @@ impl Round {
     }
 }
 
-/// The records with their sizes, if they pass the rules before 14.
+/// The records with their sizes, if they pass the rules 3 to 13.
 pub fn accepted(cell: &[u8], recipe: &[u8]) -> Option<(Cell, Recipe, Sizes)> {
     let (cell, recipe) = (cell_of_bytes(cell), recipe_of_bytes(recipe));
     (check(&cell, &recipe) == 0).then(|| {

@@ -4,7 +4,7 @@ use crate::plans::Handed;
 use crate::random::Random;
 use crate::rounds::accepted;
 use crate::TOO_SHORT;
-use independent::scratch_bytes;
+use independent::{every_point_is_reached, scratch_bytes};
 
 /// A length with a bit for each position: just enough, a little more, or any up to more than a byte for
 /// each position.
@@ -49,11 +49,11 @@ pub struct Seen {
 
 impl Seen {
     pub fn note(&mut self, handed: &Handed, refusal: u32) {
-        let Some((_, _, sizes)) = accepted(&handed.cell, &handed.recipe) else {
+        let Some((_, recipe, sizes)) = accepted(&handed.cell, &handed.recipe) else {
             return;
         };
         let positions = sizes.positions as usize;
-        if handed.entries < positions {
+        if handed.entries < positions || !every_point_is_reached(&recipe) {
             return;
         }
         let scratch = handed.scratch;

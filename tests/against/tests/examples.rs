@@ -1,5 +1,6 @@
 //! The C examples, compiled against the library and run on good and damaged files.
 
+use against::pairs::PASTED_END;
 use std::fs;
 use std::path::{Path, PathBuf};
 use std::process::Command;
@@ -236,6 +237,17 @@ fn the_bench_example_followed_to_its_end() {
 fn a_failed_test_and_an_outcome_that_is_none() {
     let files = [BENCH_CELL, BENCH_RECIPE, BENCH_TABLE];
     follow("rework", files, "000012");
+}
+
+#[test]
+fn a_recipe_with_a_forgotten_point() {
+    let recipe = format!("{BENCH_RECIPE}{PASTED_END}");
+    // It is read, and its stored table followed as before, but it isn't planned any more.
+    check("unreached", Some(BENCH_CELL), Some(&recipe));
+    let files = [BENCH_CELL, &recipe, BENCH_TABLE];
+    follow("follow_unreached", files, "0010");
+    screen("screen_unreached", [BENCH_CELL, &recipe], &["0"]);
+    install("install_unreached", [GAP_CELL, &recipe], None);
 }
 
 #[test]

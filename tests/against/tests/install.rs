@@ -5,21 +5,22 @@
 use against::calls::{Calls, Library};
 use against::damage::fill_past_lines;
 use against::installs::{owed, Installing};
-use against::pairs::{self, either_pair, Pair, NO_LIMITS};
+use against::pairs::{self, either_pair, Pair, NO_LIMITS, PASTED_END, PASTED_LOOP};
 use against::plans::Handed;
 use against::random::Random;
-use against::{scratches, CellFile, RecipeFile};
+use against::{scratches, CellFile, RecipeFile, TOO_SHORT, UNREACHED};
 use independent::{
-    candidates, cell_bytes, cell_of_bytes, check, gap_pair, joint_choices, missing_processes,
-    realisable_by_joint_steps, realisable_by_single_moves, recipe_bytes, recipe_of_bytes,
-    scratch_bytes, Cell, Install, Process, Recipe, Sizes, MOST_LINES, MOST_POSITIONS,
+    candidates, cell_bytes, cell_of_bytes, check, every_point_is_reached, gap_pair, joint_choices,
+    missing_processes, realisable_by_joint_steps, realisable_by_single_moves, recipe_bytes,
+    recipe_of_bytes, scratch_bytes, Cell, Install, Process, Recipe, Sizes, MOST_LINES,
+    MOST_POSITIONS,
 };
 
 const BENCH_CELL: &str = include_str!("../../../examples/bench/cell.csv");
 const BENCH_RECIPE: &str = include_str!("../../../examples/bench/recipe.csv");
 
 /// Small pairs of a cell and a recipe whose lists are compared, and the most positions that one has.
-const SMALL_PAIRS: usize = 12_000;
+const SMALL_PAIRS: usize = 13_400;
 const FEW_POSITIONS: [u64; 4] = [60, 200, 400, 1_000];
 
 /// One pair in so many gets a list of every length.
@@ -29,13 +30,13 @@ const EVERY_LENGTH: usize = 10;
 const FEW_JOINT_CHOICES: u64 = 40_000;
 
 /// Pairs with cells of 63 lines, each of which also gets one line more.
-const FULL_PAIRS: usize = 2_000;
+const FULL_PAIRS: usize = 2_300;
 
 /// Pairs whose lists are wanted with just enough scratch, and with one byte less.
-const SCRATCH_PAIRS: usize = 2_000;
+const SCRATCH_PAIRS: usize = 2_400;
 
 /// Pairs that are damaged, each so many times.
-const DAMAGED_PAIRS: usize = 12_000;
+const DAMAGED_PAIRS: usize = 13_400;
 const DAMAGED: usize = 4;
 
 /// The most positions with which a damaged pair gets its list. Greater ones get too short a table.
@@ -165,6 +166,28 @@ fn seven_bytes_get_the_first_of_two_lines() {
 }
 
 #[test]
+fn the_bench_example_with_forgotten_points_gets_no_list() {
+    for (pasted, positions) in [(PASTED_END, 108), (PASTED_LOOP, 126)] {
+        let recipe = format!("{BENCH_RECIPE}{pasted}");
+        let recipe = lines_without(&recipe, None);
+        // With a line missing, and with all lines.
+        for line in [Some(3), Some(0), None] {
+            let pair = Pair::of_lines(&lines_without(BENCH_CELL, line), &[], &recipe);
+            let handed = handed(&pair);
+            assert_eq!(handed.entries, positions);
+            let (mut table, mut scratch, mut list) = ([7; 126], [7; 16], [7; 40]);
+            let Handed { cell, recipe, .. } = &handed;
+            let result = Library::install(cell, recipe, &mut table, &mut scratch, &mut list);
+            assert_eq!(result, 22 << 32);
+            assert_eq!((table, scratch, list), ([7; 126], [7; 16], [7; 40]));
+            let owed = owed(&handed);
+            assert_eq!(owed.refusal, UNREACHED);
+            compare_lengths(handed, &owed, [0, 3, 4, 400], &mut Random::new(4));
+        }
+    }
+}
+
+#[test]
 fn the_list_rises_and_gives_no_station_a_new_state() {
     let recipe = ["0,1,2,0,1,1,0", "1,1,1,0,2,2,0", "2,0,0,0,0,0,0"];
     let two_states = Pair::of_lines(&["0,0,1,2,1", "0,0,1,1,0"], &[], &recipe);
@@ -283,7 +306,7 @@ impl Lists {
     }
 }
 
-/// A pair whose cell mostly lacks a process, that passes the rules before 14: of a seeded pair one
+/// A pair whose cell mostly lacks a process, that passes the rules 3 to 13: of a seeded pair one
 /// operation line or two are left out or changed, if such a change is found after which the recipe isn't
 /// realisable. Every other pair has limits.
 fn lacking_pair(
@@ -346,7 +369,7 @@ fn small_pairs() {
     let mut random = Random::new(21);
     let mut source = independent::Random(22);
     let mut lists = Lists::default();
-    let mut full = 0;
+    let (mut full, mut unreached) = (0, 0);
     for n in 0..SMALL_PAIRS {
         let most = FEW_POSITIONS[n / 2 % 4];
         let mut pair = lacking_pair(n, most, &mut source, &mut random);
@@ -362,13 +385,15 @@ fn small_pairs() {
         } else {
             compare_lengths(handed, &owed, [length], &mut random);
         }
-        // Some seeded cells have no place for a line.
+        // Some seeded cells have no place for a line, and some recipes have unreached points.
         match owed.refusal {
             0 => lists.note(&records(&pair), &owed.processes),
+            UNREACHED => unreached += 1,
             _ => full += 1,
         }
     }
-    println!("{full} cells of 64 lines");
+    println!("{full} cells of 64 lines, {unreached} recipes with unreached points");
+    assert!(full >= 300 && unreached >= 1_000);
     lists.judge();
     let [by_joint_steps, with_lines] = lists.by_joint_steps;
     assert!(by_joint_steps >= 3_000 && with_lines >= 1_000);
@@ -384,6 +409,9 @@ fn sixty_three_lines_and_sixty_four() {
     let mut full = [[0; 2]; 2];
     for n in 0..FULL_PAIRS {
         let mut pair = lacking_pair(n, 200, &mut source, &mut random);
+        if !every_point_is_reached(&records(&pair).1) {
+            continue;
+        }
         // Some seeded cells have 64 lines to begin with.
         if pair.cell.len() < MOST_LINES {
             fill_up(&mut pair, MOST_LINES - 1, &mut random);
@@ -413,8 +441,8 @@ fn just_enough_scratch_and_one_byte_less() {
     let mut random = Random::new(28);
     let mut source = independent::Random(29);
     let mut seen = scratches::Seen::default();
-    // Cells without a place for a line, and what those with one get.
-    let (mut full, mut some_listed, mut none_listed) = (0, 0, 0);
+    // Recipes with unreached points, cells without a place for a line, and what the others get.
+    let (mut unreached, mut full, mut some_listed, mut none_listed) = (0, 0, 0, 0);
     for n in 0..SCRATCH_PAIRS {
         let mut pair = lacking_pair(n, FEW_POSITIONS[n / 2 % 2], &mut source, &mut random);
         if n % 4 == 0 {
@@ -425,9 +453,14 @@ fn just_enough_scratch_and_one_byte_less() {
         match (answer.refusal, answer.processes.is_empty()) {
             (0, true) => none_listed += 1,
             (0, false) => some_listed += 1,
+            (UNREACHED, _) => unreached += 1,
             _ => full += 1,
         }
-        for (scratch, refusal) in [(handed.scratch, answer.refusal), (handed.scratch - 1, 14)] {
+        let one_less = match answer.refusal {
+            UNREACHED => (handed.scratch - 1, UNREACHED),
+            _ => (handed.scratch - 1, TOO_SHORT),
+        };
+        for (scratch, refusal) in [(handed.scratch, answer.refusal), one_less] {
             handed.scratch = scratch;
             let owed = owed(&handed);
             assert_eq!(owed.refusal, refusal, "{handed}");
@@ -437,7 +470,8 @@ fn just_enough_scratch_and_one_byte_less() {
         }
     }
     println!("{full} cells of 64 lines, {some_listed} lists with lines, {none_listed} without");
-    assert!(full >= 400 && some_listed >= 400 && none_listed >= 400);
+    println!("{unreached} recipes with unreached points");
+    assert!(full >= 400 && some_listed >= 400 && none_listed >= 400 && unreached >= 100);
     seen.judge(1_000, 20);
 }
 
@@ -445,11 +479,11 @@ fn just_enough_scratch_and_one_byte_less() {
 #[derive(Default)]
 struct Refusals {
     /// Calls by their refusal.
-    all: [usize; 22],
+    all: [usize; 23],
     /// Those on a record of 64 cell lines.
-    full: [usize; 22],
-    /// Those on a table or a scratch that is too short for the positions, 13 among them.
-    short: [usize; 22],
+    full: [usize; 23],
+    /// Those on a table or a scratch that is too short for the positions, 13 and 22 among them.
+    short: [usize; 23],
 }
 
 impl Refusals {
@@ -479,13 +513,13 @@ impl Refusals {
                     continue;
                 }
                 0 => (300, 0),
-                21 => (1_000, 1_000),
+                21 | 22 => (1_000, 1_000),
                 _ => (300, 100),
             };
             assert!(self.all[refusal] >= least, "{refusal} was seen too seldom");
             assert!(self.full[refusal] >= least_full, "{refusal} at 64 lines");
         }
-        assert!(self.short[13] >= 300 && self.short[14] >= 300);
+        assert!([13, 14, 22].iter().all(|&n: &usize| self.short[n] >= 300));
     }
 }
 

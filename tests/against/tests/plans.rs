@@ -3,7 +3,7 @@
 
 use against::calls::{Calls, Library};
 use against::generate::{self, Rows};
-use against::pairs::{limits_of, Pair, THREE_GIVEN, TWO_GIVEN};
+use against::pairs::{limits_of, Pair, PASTED_END, PASTED_LOOP, THREE_GIVEN, TWO_GIVEN};
 use against::plans::{Handed, Planned};
 use against::random::Random;
 use against::rounds::accepted;
@@ -14,7 +14,7 @@ use independent::{
 };
 
 const BENCH_CELL: &[u8] = include_bytes!("../../../examples/bench/cell.csv");
-const BENCH_RECIPE: &[u8] = include_bytes!("../../../examples/bench/recipe.csv");
+const BENCH_RECIPE: &str = include_str!("../../../examples/bench/recipe.csv");
 
 const STAY: u32 = 67_108_864;
 
@@ -22,7 +22,7 @@ fn bench() -> Handed {
     let mut cell = vec![0; CellFile::RECORD_BYTES];
     let mut recipe = vec![0; RecipeFile::RECORD_BYTES];
     assert_eq!(CellFile::library(BENCH_CELL, &mut cell), 0);
-    assert_eq!(RecipeFile::library(BENCH_RECIPE, &mut recipe), 0);
+    assert_eq!(RecipeFile::library(BENCH_RECIPE.as_bytes(), &mut recipe), 0);
     Handed {
         cell,
         recipe,
@@ -127,6 +127,93 @@ fn a_recipe_of_one_end_is_accepted() {
     handed.scratch = 1;
     let Planned { refusal, table } = handed.plan(&mut Random::new(4));
     assert_eq!((refusal, table), (0, vec![STAY; 6]));
+}
+
+/// Wants 22 of a plan call on records that pass all other rules, whatever it is lent, which it must leave.
+fn expect_unreached(handed: &Handed) {
+    let Handed { cell, recipe, .. } = handed;
+    assert_eq!(Library::check(cell, recipe), 0);
+    let mut random = Random::new(13);
+    for entries in [0, handed.entries - 1, handed.entries, handed.entries + 9] {
+        for scratch in [0, handed.scratch - 1, handed.scratch, handed.scratch + 9] {
+            let (mut table, mut bytes) = (vec![7; entries], vec![9; scratch]);
+            assert_eq!(Library::plan(cell, recipe, &mut table, &mut bytes), 22);
+            assert!(table == vec![7; entries] && bytes == vec![9; scratch]);
+            let handed = Handed {
+                entries,
+                scratch,
+                ..handed.clone()
+            };
+            assert_eq!(handed.plan(&mut random).refusal, 22);
+        }
+    }
+}
+
+#[test]
+fn the_bench_example_with_forgotten_points_is_not_planned() {
+    let handed = |file: &str| {
+        let mut recipe = vec![0; RecipeFile::RECORD_BYTES];
+        assert_eq!(RecipeFile::library(file.as_bytes(), &mut recipe), 0);
+        Handed::of(bench().cell, recipe)
+    };
+    for (pasted, positions) in [(PASTED_END, 108), (PASTED_LOOP, 126)] {
+        let handed = handed(&format!("{BENCH_RECIPE}{pasted}"));
+        assert_eq!(handed.entries, positions);
+        expect_unreached(&handed);
+    }
+    // Nothing but `else` leads to point 3.
+    for then_alone in ["1,2,2,1,0,2,2", "1,1,2,1,1,2,0"] {
+        let file = BENCH_RECIPE.replace("1,2,2,1,0,2,3", then_alone);
+        assert_ne!(file, BENCH_RECIPE);
+        expect_unreached(&handed(&file));
+    }
+}
+
+/// A station that does operation 1, and a recipe of six points: an end behind five dos, each of which gives
+/// a part of its own and leads to the point that is named for it.
+fn chain(then: [u32; 5]) -> Handed {
+    let cell = generate::record::<CellFile>(&[vec![0, 0, 1, 1, 0]]);
+    let dos = (0..).zip(then);
+    let mut recipe: Rows = dos
+        .map(|(point, then)| vec![point, 1, 1, 0, 1 << point, then, 0])
+        .collect();
+    recipe.push(vec![5, 0, 0, 0, 0, 0, 0]);
+    Handed::of(cell, generate::record::<RecipeFile>(&recipe))
+}
+
+#[test]
+fn points_are_reached_by_chains_in_any_order() {
+    let mut random = Random::new(14);
+    // Forwards, backwards from 4 to 1, and both.
+    for then in [[1, 2, 3, 4, 5], [4, 5, 1, 2, 3], [3, 4, 1, 2, 5]] {
+        assert_eq!(chain(then).plan(&mut random).refusal, 0);
+    }
+    // Round and round; a point that leads to itself; and the end at once.
+    for then in [
+        [1, 2, 3, 4, 0],
+        [1, 2, 3, 0, 5],
+        [0, 2, 3, 4, 5],
+        [4, 5, 1, 3, 3],
+        [5, 0, 0, 0, 0],
+    ] {
+        expect_unreached(&chain(then));
+    }
+}
+
+#[test]
+fn points_behind_an_end_and_points_of_several_lines() {
+    let cell = ["0,0,1,1,0", "1,0,1,2,0"];
+    let pair = |recipe: &[&str]| Pair::of_lines(&cell, &[], recipe);
+    let forgotten = |recipe: &[&str]| {
+        let pair = pair(recipe);
+        expect_unreached(&Handed::of(pair.cell_bytes(), pair.recipe_bytes()));
+    };
+    for second in ["1,0,0,0,0,0,0", "1,1,1,0,1,0,0", "1,2,1,1,0,1,1"] {
+        forgotten(&["0,0,0,0,0,0,0", second]);
+    }
+    let both = ["0,1,1,0,1,1,0", "0,1,2,0,2,1,0", "1,0,0,0,0,0,0"];
+    assert_eq!(plan_pair(&pair(&both)).refusal, 0);
+    forgotten(&[&both[..], &["2,1,1,1,0,0,0", "2,1,2,2,0,0,0"]].concat());
 }
 
 #[test]
@@ -258,7 +345,7 @@ fn records_of_every_length() {
 
 /// A pair of so many resources, parts and points. Each station can do the one operation, the first one
 /// after internal work. Parts are all given, then all taken, and so on, and the last point is an end;
-/// without parts all points are ends; a single point leads to itself.
+/// without parts all points are ends, of which the first alone is reached; a single point leads to itself.
 fn shaped(resources: u32, parts: u32, points: u32) -> Handed {
     let mut cell: Rows = (0..resources).map(|k| vec![k, 0, 1, 0, 0]).collect();
     cell[0][1] = 1;
@@ -284,21 +371,25 @@ fn shaped(resources: u32, parts: u32, points: u32) -> Handed {
 #[test]
 fn every_shape() {
     let mut random = Random::new(7);
-    let mut refusals = [0; 20];
+    let mut refusals = [0; 23];
     for resources in 1..=6 {
         for parts in 0..=8 {
             for points in 1..=16 {
                 let mut handed = shaped(resources, parts, points);
-                let few = handed.entries <= 40_000;
+                let few = handed.entries <= 70_000;
                 // Of the greater ones only the size is tried.
                 if !few {
-                    handed.entries = (handed.entries - 1).min(40_000);
+                    handed.entries = (handed.entries - 1).min(70_000);
                     handed.scratch = 0;
                 }
                 let refusal = handed.plan(&mut random).refusal;
                 if few {
-                    let stuck = parts > 0 && points == 1;
-                    assert_eq!(refusal, if stuck { 15 } else { 0 }, "{handed}");
+                    let expected = match (parts, points) {
+                        (0, 2..) => 22,
+                        (1.., 1) => 15,
+                        _ => 0,
+                    };
+                    assert_eq!(refusal, expected, "{handed}");
                 }
                 refusals[refusal as usize] += 1;
             }
@@ -306,7 +397,7 @@ fn every_shape() {
     }
     println!("{refusals:?}");
     assert_eq!(refusals.iter().sum::<usize>(), 6 * 9 * 16);
-    for (refusal, least) in [(0, 500), (13, 100), (14, 100), (15, 30)] {
+    for (refusal, least) in [(0, 500), (13, 100), (14, 100), (15, 30), (22, 90)] {
         assert!(refusals[refusal] >= least, "{refusal}: {refusals:?}");
     }
 }
@@ -338,7 +429,7 @@ fn many_joint_states(stations: u32, points: u32, parts: bool) -> Handed {
 fn many_joint_states_and_few_ways_to_place_parts() {
     let mut random = Random::new(8);
     for (stations, points, parts, positions) in [
-        (6, 4, false, MOST_POSITIONS),
+        (6, 1, false, 262_144),
         (5, 5, true, 983_040),
         (4, 13, true, 266_240),
     ] {
@@ -355,9 +446,15 @@ fn many_joint_states_and_few_ways_to_place_parts() {
         assert_eq!([1, 3, 4].map(|kind| moves(kind) > 0), expected);
     }
     // One more point, and it is 13 before it is 14.
-    let mut handed = many_joint_states(6, 5, false);
+    let mut handed = many_joint_states(5, 6, true);
     handed.entries = 1;
     assert_eq!(handed.plan(&mut random).refusal, 13);
+    // Several points without parts are ends that nothing leads to, be they too many for 13 or not.
+    for (points, size) in [(4, 0), (5, 13)] {
+        let handed = many_joint_states(6, points, false);
+        assert_eq!(Library::check(&handed.cell, &handed.recipe), size);
+        assert_eq!(handed.plan(&mut random).refusal, 22);
+    }
 }
 
 #[test]

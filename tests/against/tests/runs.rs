@@ -4,9 +4,9 @@
 use against::calls::{Calls, Independent, Library};
 use against::damage::ever_more_damaged;
 use against::generate::{self, Rows};
-use against::pairs::{full_pair, limits_of, Pair, THREE_GIVEN, TWO_GIVEN};
+use against::pairs::{full_pair, limits_of, Pair, PASTED_END, PASTED_LOOP, THREE_GIVEN, TWO_GIVEN};
 use against::rounds::{accepted, compare, Round, Table};
-use against::{CellFile, Format, RecipeFile};
+use against::{CellFile, Format, RecipeFile, RunRecord};
 use independent::{
     entry_of, run_bytes, run_of_bytes, Run, CARRY, CELL_BYTES, MOST_POSITIONS, MOST_RESOURCES,
     RUN_BYTES,
@@ -52,10 +52,10 @@ fn run_at(cell: &[u8], recipe: &[u8], position: u64) -> Vec<u8> {
     .to_vec()
 }
 
-#[test]
-fn the_bench_example_from_a_fresh_run() {
-    let (cell, recipe, table) = bench();
-    assert_eq!(Library::check(&cell, &recipe), 0);
+/// Follows the bench example's run from the start to its end. The recipe may have further points, which the
+/// table has entries for behind the others.
+fn follow_to_the_end(cell: &[u8], recipe: &[u8], table: &[u32]) {
+    assert_eq!(Library::check(cell, recipe), 0);
     let mut run = vec![0xff; RUN_BYTES];
     assert_eq!(Library::fresh(&mut run), 0);
     assert_eq!(run, [0; RUN_BYTES]);
@@ -66,18 +66,52 @@ fn the_bench_example_from_a_fresh_run() {
         (50, 50_331_652, 0, 72, 2),
     ] {
         assert_eq!(run, bench_run(position));
-        assert_eq!(Library::place(&cell, &recipe, &run, 0), place);
-        assert_eq!(Library::place(&cell, &recipe, &run, 1), 255);
-        let answer = Library::next_move(&cell, &recipe, &table, &run);
-        assert_eq!(answer, entry);
-        let refusal = Library::report(&cell, &recipe, &table, &mut run, outcome);
-        assert_eq!(refusal, 0);
+        assert_eq!(Library::place(cell, recipe, &run, 0), place);
+        assert_eq!(Library::place(cell, recipe, &run, 1), 255);
+        assert_eq!(Library::next_move(cell, recipe, table, &run), entry);
+        let mut record = RunRecord::of(&run).expect("the run is long enough");
+        let second = Library::report_record(cell, recipe, table, &mut record, outcome);
+        let refusal = Library::report(cell, recipe, table, &mut run, outcome);
+        assert_eq!((refusal, second), (0, 0));
         assert_eq!(run, bench_run(next));
+        assert_eq!(run, record.bytes());
     }
-    let end = Library::next_move(&cell, &recipe, &table, &run);
+    let end = Library::next_move(cell, recipe, table, &run);
     assert_eq!(end, 67_108_864);
-    assert_eq!(Library::report(&cell, &recipe, &table, &mut run, 1), 19);
+    assert_eq!(Library::report(cell, recipe, table, &mut run, 1), 19);
     assert_eq!(run, bench_run(72));
+}
+
+#[test]
+fn the_bench_example_from_a_fresh_run() {
+    let (cell, recipe, table) = bench();
+    follow_to_the_end(&cell, &recipe, &table);
+}
+
+#[test]
+fn a_recipe_with_forgotten_points_is_run_with_its_stored_table() {
+    let (cell, _, table) = bench();
+    // All positions of the end have the same entry; the two dos can't be carried by turns and have none.
+    for (pasted, entries) in [
+        (PASTED_END, [67_108_864; 18].as_slice()),
+        (PASTED_LOOP, &[0; 36]),
+    ] {
+        let file = [BENCH_RECIPE, pasted.as_bytes()].concat();
+        let mut recipe = vec![0; RecipeFile::RECORD_BYTES];
+        assert_eq!(RecipeFile::library(&file, &mut recipe), 0);
+        let stored = [&table[..], entries].concat();
+        follow_to_the_end(&cell, &recipe, &stored);
+        // A run may also stand at a forgotten point.
+        let forgotten = run_at(&cell, &recipe, 90);
+        let answers = match entries[0] {
+            0 => both(18),
+            entry => (entry.into(), 19),
+        };
+        assert_eq!(refused(&cell, &recipe, &stored, &forgotten, 1), answers);
+        // Its positions count for the length of the table.
+        let short = &stored[..stored.len() - 1];
+        assert_eq!(refused(&cell, &recipe, short, &bench_run(0), 1), both(14));
+    }
 }
 
 #[test]

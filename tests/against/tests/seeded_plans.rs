@@ -1,21 +1,22 @@
 //! The library's planner against the independent program: seeded cells and recipes, small and great,
-//! and every kind of damage to them; and lists of calls on the planned tables against the book.
+//! and every kind of damage to them; and lists of calls on the planned tables, and on stored ones for
+//! recipes that are no longer planned, against the book.
 
 use against::calls::{Calls, Library};
 use against::lists::{self, Form, List};
 use against::pairs::{self, either_pair, limits_leave_range, unlimited, Pair, NO_LIMITS};
 use against::plans::{Handed, Planned};
 use against::random::Random;
-use against::scratches;
+use against::{scratches, TOO_SHORT, UNREACHED};
 use independent::{
-    cell_bytes, cell_of_bytes, dense_pair, is_overfull, joint_choices, judge, kind_of,
-    long_ways_pair, mixed_pair, odometer_pair, plan, recipe_bytes, scratch_bytes, Book, Cell,
-    Recipe, Sizes, FEW_JOINT_CHOICES, MOST_POSITIONS, STAY,
+    cell_bytes, cell_of_bytes, dense_pair, every_point_is_reached, is_overfull, joint_choices,
+    judge, kind_of, long_ways_pair, mixed_pair, odometer_pair, plan, recipe_bytes, scratch_bytes,
+    stored_table, Book, Cell, Recipe, Sizes, FEW_JOINT_CHOICES, MOST_POSITIONS, STAY,
 };
 
-/// Small pairs of a cell and a recipe that are planned. Each is also planned with too short a table or
-/// scratch, and so many times after some damage.
-const SMALL_PAIRS: usize = 20_000;
+/// Small pairs of a cell and a recipe that are planned, but for those with an unreached point. Each is also
+/// planned with too short a table or scratch, and so many times after some damage.
+const SMALL_PAIRS: usize = 22_500;
 const DAMAGED: usize = 3;
 
 /// Pairs that are planned with scratches of every length near the least that will do: so many for each
@@ -51,7 +52,7 @@ const TEST: u8 = 2;
 #[derive(Default)]
 struct Seen {
     /// Plan calls by their refusal.
-    refusals: [usize; 21],
+    refusals: [usize; 23],
     /// Plan calls refused with 4 for a limit alone.
     limits_past_range: usize,
     scratches: scratches::Seen,
@@ -64,8 +65,8 @@ struct Seen {
     /// zeros and moves at points that are no ends.
     by_joint_steps: usize,
     mixed: usize,
-    /// Planned tables with points to which none leads.
-    forgotten: usize,
+    /// Stored tables of recipes with unreached points, and those by which the start led to an end.
+    stored: [usize; 2],
     /// Accepted pairs, and those with a move of each kind.
     accepted: usize,
     kinds: [usize; 5],
@@ -157,7 +158,6 @@ impl Seen {
         self.resources[sizes.resources] += 1;
         self.parts[sizes.parts] += 1;
         self.points[sizes.points as usize] += 1;
-        self.forgotten += usize::from(reached_points(recipe).contains(&false));
         let table = &planned.table[..sizes.positions as usize];
         if joint_choices(cell, recipe) <= FEW_JOINT_CHOICES {
             self.by_joint_steps += 1;
@@ -209,8 +209,8 @@ impl Seen {
         println!("planned by P {:?}", self.parts);
         println!("planned by N {:?}", &self.points[1..]);
         println!(
-            "{} also by joint steps, {} of them mixed; {} with forgotten points",
-            self.by_joint_steps, self.mixed, self.forgotten
+            "{} also by joint steps, {} of them mixed; stored {}, {} of them led to an end",
+            self.by_joint_steps, self.mixed, self.stored[0], self.stored[1]
         );
         println!(
             "{} accepted, with moves of kind 1 to 4 {:?}, tests {}, dos of 1 to 4 lines {:?}",
@@ -229,6 +229,39 @@ impl Seen {
             self.lists.overfull
         );
     }
+
+    /// Prints what was seen of small pairs and wants enough of everything.
+    fn judge_small(&self) {
+        self.print();
+        for (refusal, times) in self.refusals.into_iter().enumerate() {
+            match refusal {
+                1 | 2 | 16..=19 | 21 => assert_eq!(times, 0, "the planner cannot give {refusal}"),
+                _ => assert!(times >= 300, "{refusal} was seen too seldom"),
+            }
+        }
+        assert!(self.refusals[20] >= 1_000 && self.limits_past_range >= 1_000);
+        assert!(self.refusals[22] >= 1_000);
+        assert!(self.stored.iter().all(|&times| times >= 1_000));
+        self.scratches.judge(1_000, 30);
+        self.limited.judge();
+        assert!(3 * self.accepted > SMALL_PAIRS);
+        assert!(self.by_joint_steps > SMALL_PAIRS / 2 && self.mixed > SMALL_PAIRS / 4);
+        for (name, seen) in [
+            ("R", &self.resources[1..]),
+            ("P", &self.parts),
+            ("N", &self.points[1..]),
+            ("moves of each kind", &self.kinds[1..]),
+            ("dos of each number of lines", &self.parallel[1..]),
+            ("tests", &[self.tests]),
+        ] {
+            assert!(seen.iter().all(|&times| times >= 30), "{name}: {seen:?}");
+        }
+        let lists = &self.lists;
+        assert!(lists.calls >= 1_000_000);
+        assert!(lists.issued[1..4].iter().all(|&times| times >= 20_000));
+        assert!(lists.next_moves[0] >= 100_000);
+        assert!(lists.reports[17..].iter().all(|&times| times >= 10_000));
+    }
 }
 
 /// The part of a table for the positions of a point.
@@ -237,26 +270,9 @@ fn at_point<'a, T>(sizes: &Sizes, table: &'a [T], point: u8) -> &'a [T] {
     &table[usize::from(point) * configurations..][..configurations]
 }
 
-/// For each point, whether point 0 leads there, by some branches or none.
-fn reached_points(recipe: &Recipe) -> Vec<bool> {
-    let lines = usize::from(recipe.count);
-    let mut reached = vec![false; usize::from(recipe.point[lines - 1]) + 1];
-    let mut next = vec![0];
-    while let Some(point) = next.pop() {
-        if !std::mem::replace(&mut reached[usize::from(point)], true) {
-            let line = pairs::lines_at(recipe, point)[0];
-            match recipe.kind[line] {
-                END => {}
-                TEST => next.extend([recipe.then[line], recipe.otherwise[line]]),
-                _ => next.push(recipe.then[line]),
-            }
-        }
-    }
-    reached
-}
-
 /// Plans a pair with a table and a scratch that are long enough, and feeds lists of calls on the table
-/// to the library and to the book.
+/// to the library and to the book. If a point is unreached, so that nothing is planned, these are on the
+/// table that was stored for it.
 fn plan_and_follow(
     (cell, recipe): (Cell, Recipe),
     lists: Lists,
@@ -274,23 +290,45 @@ fn plan_and_follow(
     let planned = handed.plan(random);
     let records = (cell, recipe, sizes);
     seen.note_call(&handed, planned.refusal);
-    seen.note(&records, &planned);
+    if planned.refusal == UNREACHED.into() {
+        let table = stored_table(&records.0, &records.1);
+        let from_start = follow_all(&handed, &records, &table, lists, random, seen);
+        seen.stored[0] += 1;
+        seen.stored[1] += usize::from(from_start.reports[19] > 0);
+    } else {
+        seen.note(&records, &planned);
+        follow_all(&handed, &records, &planned.table, lists, random, seen);
+    }
+}
+
+/// Feeds lists of calls on a table to the library and to the book. What was seen in the first of them.
+fn follow_all(
+    handed: &Handed,
+    (cell, recipe, sizes): &(Cell, Recipe, Sizes),
+    table: &[u32],
+    lists: Lists,
+    random: &mut Random,
+    seen: &mut Seen,
+) -> lists::Seen {
+    let mut first = None;
     for n in 0..lists.count {
         // The first begins at the start, the others mostly where there is an entry.
         let position = match n {
             0 => 0,
-            _ => some_position(&planned.table[..positions], random),
+            _ => some_position(&table[..sizes.positions as usize], random),
         };
-        let book = Book::from_position(&records.0, &records.1, &planned.table, position as u64);
+        let book = Book::from_position(cell, recipe, table, position as u64);
         let form = [Form::Value, Form::Record][n % 2];
-        let list_seen = follow(&handed, &planned.table, book, form, lists.calls, random);
-        let promised = planned.table[position] != 0;
+        let list_seen = follow(handed, table, book, form, lists.calls, random);
+        let promised = table[position] != 0;
         assert!(
-            keeps_promises(&list_seen, promised, &records.2),
+            keeps_promises(&list_seen, promised, sizes),
             "from {position}\n{handed}"
         );
         seen.lists.add(&list_seen);
+        first.get_or_insert(list_seen);
     }
+    first.unwrap_or_default()
 }
 
 /// Beside the answers: from an entry, 18 is never given, silent moves in a row are few and no station is
@@ -341,12 +379,16 @@ fn some_position(table: &[u32], random: &mut Random) -> usize {
     *found.unwrap_or(&positions[0])
 }
 
-/// Plans with a table or a scratch that is too short.
+/// Plans with a table or a scratch that is too short, which an unreached point comes before.
 fn plan_short((cell, recipe): &(Cell, Recipe), random: &mut Random, seen: &mut Seen) {
+    let owed = match every_point_is_reached(recipe) {
+        true => TOO_SHORT,
+        false => UNREACHED,
+    };
     let (cell, recipe) = (cell_bytes(cell).to_vec(), recipe_bytes(recipe).to_vec());
     let handed = Handed::too_short(cell, recipe, random);
     let refusal = handed.plan(random).refusal;
-    assert_eq!(refusal, 14, "{handed}");
+    assert_eq!(refusal, owed.into(), "{handed}");
     seen.note_call(&handed, refusal);
 }
 
@@ -382,34 +424,7 @@ fn small_pairs() {
         }
         plan_and_follow(pair, lists, &mut random, &mut seen);
     }
-    seen.print();
-    for (refusal, times) in seen.refusals.into_iter().enumerate() {
-        match refusal {
-            1 | 2 | 16..=19 => assert_eq!(times, 0, "the planner cannot give {refusal}"),
-            _ => assert!(times >= 300, "{refusal} was seen too seldom"),
-        }
-    }
-    assert!(seen.refusals[20] >= 1_000 && seen.limits_past_range >= 1_000);
-    seen.scratches.judge(1_000, 30);
-    seen.limited.judge();
-    assert!(3 * seen.accepted > SMALL_PAIRS);
-    assert!(seen.by_joint_steps > SMALL_PAIRS / 2 && seen.mixed > SMALL_PAIRS / 4);
-    let others = [seen.tests, seen.forgotten];
-    for (name, seen) in [
-        ("R", &seen.resources[1..]),
-        ("P", &seen.parts),
-        ("N", &seen.points[1..]),
-        ("moves of each kind", &seen.kinds[1..]),
-        ("dos of each number of lines", &seen.parallel[1..]),
-        ("tests and points to which none leads", &others),
-    ] {
-        assert!(seen.iter().all(|&times| times >= 30), "{name}: {seen:?}");
-    }
-    let lists = &seen.lists;
-    assert!(lists.calls >= 1_000_000);
-    assert!(lists.issued[1..4].iter().all(|&times| times >= 20_000));
-    assert!(lists.next_moves[0] >= 100_000);
-    assert!(lists.reports[17..].iter().all(|&times| times >= 10_000));
+    seen.judge_small();
 }
 
 #[test]
@@ -427,7 +442,8 @@ fn scratches_of_every_length_near_the_least() {
         let most = [60, 60, 400, 2_000][n / 2 % 4];
         let (cell, recipe) = either_pair(n, most, &mut source);
         let positions = Sizes::of(&cell, &recipe).positions as usize;
-        if pairs[positions % 8] == SCRATCH_PAIRS {
+        // An unreached point would be refused whatever is lent.
+        if pairs[positions % 8] == SCRATCH_PAIRS || !every_point_is_reached(&recipe) {
             continue;
         }
         pairs[positions % 8] += 1;
@@ -458,20 +474,25 @@ fn one_table_for_many_pairs() {
     let mut source = independent::Random(16);
     // Each pair is planned with what the one before has left.
     let (mut table, mut scratch) = (vec![0; 2_000], vec![0; 250]);
-    let mut refusals = [0; 20];
-    for n in 0..3_000 {
+    let mut refusals = [0; 23];
+    for n in 0..3_400 {
         let (cell, recipe) = either_pair(n, 2_000, &mut source);
-        let positions = Sizes::of(&cell, &recipe).positions as usize;
-        let past = table[positions..].to_vec();
+        let (before, scratch_before) = (table.clone(), scratch.clone());
         let records = (cell_bytes(&cell), recipe_bytes(&recipe));
         let refusal = Library::plan(&records.0, &records.1, &mut table, &mut scratch);
+        refusals[refusal as usize] += 1;
+        if !every_point_is_reached(&recipe) {
+            assert_eq!(refusal, UNREACHED.into());
+            assert!(table == before && scratch == scratch_before);
+            continue;
+        }
         let judged = judge(&cell, &recipe, &table).map(u32::from);
         assert_eq!(judged, Ok(refusal));
-        assert_eq!(table[positions..], past);
-        refusals[refusal as usize] += 1;
+        let positions = Sizes::of(&cell, &recipe).positions as usize;
+        assert_eq!(table[positions..], before[positions..]);
     }
     println!("plans by refusal {refusals:?}");
-    assert!(refusals[0] >= 1_000 && refusals[15] >= 300);
+    assert!(refusals[0] >= 1_000 && refusals[15] >= 300 && refusals[22] >= 200);
 }
 
 #[test]
@@ -480,14 +501,14 @@ fn great_pairs() {
     let mut source = independent::Random(14);
     let mut seen = Seen::default();
     let lists = Lists {
-        count: 200,
+        count: 300,
         calls: 50,
     };
     let (mut planned, mut over_half) = (0, 0);
     while planned < GREAT_PAIRS {
         let pair = either_pair(planned, MOST_POSITIONS, &mut source);
         let positions = Sizes::of(&pair.0, &pair.1).positions;
-        if positions <= GREAT {
+        if positions <= GREAT || !every_point_is_reached(&pair.1) {
             continue;
         }
         planned += 1;

@@ -6,8 +6,9 @@ use against::pairs::{self, limits_leave_range, unlimited, Pair, NO_LIMITS};
 use against::random::Random;
 use against::rounds::{accepted, compare, Answers, Round, Table};
 use independent::{
-    cell_of_bytes, is_open, is_overfull, kind_of, letters_of, recipe_of_bytes, run_bytes,
-    run_of_bytes, Cell, Recipe, Run, Sizes, CARRY, MOST_POSITIONS, NO_LIMIT, RUN_BYTES, TRANSFER,
+    cell_of_bytes, every_point_is_reached, is_open, is_overfull, kind_of, letters_of,
+    recipe_of_bytes, run_bytes, run_of_bytes, Cell, Recipe, Run, Sizes, CARRY, MOST_POSITIONS,
+    NO_LIMIT, RUN_BYTES, TRANSFER,
 };
 use std::ops::RangeInclusive;
 
@@ -27,7 +28,9 @@ const TEST: u8 = 2;
 struct Seen {
     calls: usize,
     /// For check, next-move, report and place, how often each refusal came.
-    refusals: [[usize; 21]; 4],
+    refusals: [[usize; 23]; 4],
+    /// How often each of these was accepted although the recipe has an unreached point.
+    unreached: [usize; 4],
     /// Refusals 4 for a limit alone.
     limits_past_range: usize,
     /// Moves that only the limits shut, by their kind: without a station overfull before, and with one.
@@ -63,6 +66,11 @@ impl Seen {
         for (times, refusal) in self.refusals.iter_mut().zip(refusals) {
             self.calls += 1;
             times[refusal as usize] += 1;
+        }
+        if check == 0 && !every_point_is_reached(&recipe_of_bytes(&round.recipe)) {
+            for (times, refusal) in self.unreached.iter_mut().zip(refusals) {
+                *times += usize::from(refusal == 0);
+            }
         }
         self.note_limits(round, table, answers);
         let entry = next_move as u32;
@@ -148,6 +156,7 @@ impl Seen {
         self.judge_refusals("report", 2, &[3..=14, 16..=20]);
         self.judge_refusals("place", 3, &[3..=13, 16..=16, 20..=20]);
         for (name, seen) in [
+            ("accepted with an unreached point", &self.unreached[..]),
             ("next-moves of kind 1 to 4", &self.moves[1..]),
             ("reports of kind 1 to 4", &self.reports[1..]),
             ("dos of 1 to 4 lines", &self.parallel[1..]),

@@ -6,6 +6,7 @@
 //! compared byte for byte.
 
 use against::generate::{self, Generate, Rows};
+use against::pairs::{PASTED_END, PASTED_LOOP};
 use against::random::Random;
 use against::{CellFile, Columns, RecipeFile};
 use independent::{cell_bytes, likely_pair, recipe_bytes};
@@ -33,7 +34,9 @@ const LEAST_MOVES: usize = 4_000;
 
 /// Every refusal that a plan and the outcomes can lead to. A run that `walk` itself begins and a table
 /// that it has planned are never refused with 16 or 18.
-const REFUSALS: [usize; 17] = [1, 2, 3, 4, 5, 6, 7, 8, 9, 10, 11, 12, 13, 14, 15, 17, 19];
+const REFUSALS: [usize; 18] = [
+    1, 2, 3, 4, 5, 6, 7, 8, 9, 10, 11, 12, 13, 14, 15, 17, 19, 22,
+];
 
 fn root() -> &'static Path {
     Path::new(env!("CARGO_MANIFEST_DIR"))
@@ -264,7 +267,7 @@ fn some_case(random: &mut Random) -> Case {
 fn seeded_files_and_inputs() {
     let mut random = Random::new(41);
     let folder = folder("seeded");
-    let mut seen = [0; 20];
+    let mut seen = [0; 23];
     let mut moves = 0;
     for _ in 0..RUNS {
         let printed = some_case(&mut random).compare(&folder);
@@ -274,6 +277,7 @@ fn seeded_files_and_inputs() {
             moves -= 1;
         }
     }
+    println!("{moves} moves, refusals {seen:?}");
     for number in REFUSALS {
         assert!(seen[number] >= LEAST_SEEN, "{number}: {seen:?}");
     }
@@ -299,6 +303,20 @@ fn the_stored_run_is_the_bench_example() {
     assert_eq!(stored("data/recipe.csv"), BENCH_RECIPE);
     let case = Case::new(BENCH_CELL, BENCH_RECIPE, &stored("stdin"));
     assert_eq!(case.compare(&folder("bench")), stored("stdout").as_bytes());
+}
+
+#[test]
+fn points_that_nothing_leads_to() {
+    let expected = Path::new(env!("CARGO_MANIFEST_DIR")).join("expected/walk_unreached.txt");
+    let expected = fs::read(expected).expect("the expected output is there");
+    let folder = folder("unreached");
+    for pasted in [PASTED_END, PASTED_LOOP] {
+        let recipe = format!("{BENCH_RECIPE}{pasted}");
+        for input in ["", "0010", "9"] {
+            let case = Case::new(BENCH_CELL, &recipe, input);
+            assert_eq!(case.compare(&folder), expected);
+        }
+    }
 }
 
 #[test]

@@ -9,7 +9,7 @@ use crate::recipe::{Recipe, DO, END, TEST};
 use crate::run::{NextMove, Report, Run};
 use crate::sizes::{Configuration, Sizes, MOST_PARTS};
 
-/// A book over a cell and a recipe that pass the rules before 14, and a table of at least M entries.
+/// A book over a cell and a recipe that pass the rules 3 to 13, and a table of at least M entries.
 pub struct Book<'a> {
     cell: &'a Cell,
     recipe: &'a Recipe,

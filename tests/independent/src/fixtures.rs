@@ -3,7 +3,7 @@
 use crate::cell::{read_cell, Cell, CELL_NAMES};
 use crate::entry::{entry_of, is_open, kind_of, makes, CARRY, INTERNAL, STAY, TRANSFER};
 use crate::generate::{likely_pair, limited_pair};
-use crate::plan::plan;
+use crate::plan::{plan, stored_table};
 use crate::random::Random;
 use crate::recipe::{read_recipe, Recipe, RECIPE_NAMES};
 use crate::simulation::greatest_simulation;
@@ -25,6 +25,11 @@ pub(crate) const BENCH_RECIPE: [&str; 5] = [
     "3,1,3,1,0,0,0",
     "4,0,0,0,0,0,0",
 ];
+
+/// Points that are pasted behind the bench example's recipe and forgotten: an end, and two dos that lead
+/// to each other.
+pub(crate) const PASTED_END: [&str; 1] = ["5,0,0,0,0,0,0"];
+pub(crate) const PASTED_LOOP: [&str; 2] = ["5,1,1,0,1,6,0", "6,1,3,1,0,5,0"];
 
 /// The cell with these lines, which the reader must accept.
 pub(crate) fn cell_of(lines: &[&str]) -> Cell {
@@ -48,6 +53,12 @@ pub(crate) fn limited(mut cell: Cell, limits: &[u8]) -> Cell {
 
 pub(crate) fn bench() -> (Cell, Recipe) {
     (cell_of(&BENCH_CELL), recipe_of(&BENCH_RECIPE))
+}
+
+/// The bench example with these recipe lines behind its own.
+pub(crate) fn bench_with(pasted: &[&str]) -> (Cell, Recipe) {
+    let recipe = recipe_of(&[&BENCH_RECIPE[..], pasted].concat());
+    (cell_of(&BENCH_CELL), recipe)
 }
 
 /// The bench example's table, as far as a run from the start can come.
@@ -142,11 +153,16 @@ pub(crate) fn some_table(cell: &Cell, recipe: &Recipe, random: &mut Random) -> V
         .collect()
 }
 
-/// What the planner answers for a cell and a recipe, and its table.
+/// What the planner answers for a cell and a recipe, and its table; where rule 22 refuses the recipe, what
+/// they would be without that rule.
 pub(crate) fn planned(cell: &Cell, recipe: &Recipe) -> (u8, Vec<u32>) {
     let positions = Sizes::of(cell, recipe).positions;
     let mut table = vec![0; positions as usize];
     let refusal = plan(cell, recipe, &mut table, scratch_bytes(positions) as usize);
+    if refusal == 22 {
+        table = stored_table(cell, recipe);
+        return (if table[0] == 0 { 15 } else { 0 }, table);
+    }
     (refusal, table)
 }
 

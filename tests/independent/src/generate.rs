@@ -1,6 +1,7 @@
 //! Cells and recipes that fit each other, many of which are realisable. A recipe is written along a
 //! walk through its cell, so that there is a way for it; then some pairs are damaged in a place or
-//! more. There are cells with limits and without.
+//! more. There are cells with limits and without. One recipe in ten has points that are not reached from
+//! point 0, the others have none.
 
 mod cell_lines;
 mod great;
@@ -10,7 +11,9 @@ pub use great::{dense_pair, gap_pair, long_ways_pair, mixed_pair, odometer_pair}
 
 use crate::cell::{cell_bytes, cell_of_bytes, Cell, NO_LIMIT};
 use crate::random::Random;
-use crate::recipe::{recipe_of_bytes, Recipe, END, MOST_PARALLEL, RECIPE_BYTES};
+use crate::recipe::{
+    every_point_is_reached, recipe_of_bytes, Recipe, END, MOST_PARALLEL, RECIPE_BYTES,
+};
 use crate::run::check;
 use crate::sizes::{Sizes, MOST_PARTS, MOST_RESOURCES};
 use crate::table::MOST_LINES;
@@ -29,8 +32,11 @@ const END_LINE: RecipeLine = [0, END, 0, 0, 0, 0, 0];
 /// How often a cell is thrown away in which the walk finds nothing to do.
 const MOST_TRIES: usize = 4;
 
+/// One recipe in so many has unreached points.
+const FORGETFUL: usize = 10;
+
 /// A cell without limits and a recipe, of at most this many positions, 50 or more, that pass the rules
-/// before 14.
+/// 3 to 13.
 pub fn likely_pair(most_positions: u64, random: &mut Random) -> (Cell, Recipe) {
     pair(most_positions, false, random)
 }
@@ -41,12 +47,20 @@ pub fn limited_pair(most_positions: u64, random: &mut Random) -> (Cell, Recipe) 
 }
 
 fn pair(most_positions: u64, limited: bool, random: &mut Random) -> (Cell, Recipe) {
-    let likely = likely_lines(most_positions, limited, random);
+    // A planner refuses every recipe with an unreached point, so chance alone would leave too few others.
+    let forgets = random.once_in(FORGETFUL);
+    let is_wanted = |recipe: &Recipe| every_point_is_reached(recipe) != forgets;
+    let likely = loop {
+        let lines = likely_lines(most_positions, limited, random);
+        if is_wanted(&recipe_of_lines(&lines.recipe)) {
+            break lines;
+        }
+    };
     let tries = random.choose(&[0, 8]);
     for _ in 0..tries {
         let (cell, recipe) = damaged_pair(likely.clone(), limited, random);
         let fits = || Sizes::of(&cell, &recipe).positions <= most_positions;
-        if check(&cell, &recipe) == 0 && fits() {
+        if check(&cell, &recipe) == 0 && fits() && is_wanted(&recipe) {
             return (cell, recipe);
         }
     }
@@ -266,7 +280,7 @@ mod tests {
         transfers: usize,
         silent_rings: usize,
         several_parts: usize,
-        forgotten_points: usize,
+        unreached_points: usize,
         one_end: usize,
         no_parts: usize,
         no_end: usize,
@@ -315,8 +329,10 @@ mod tests {
                 .filter(|p| *p == 0 || after.contains(p))
                 .collect();
             let kind_met = |kind| reached.iter().any(|&point| recipe.kind_at(point) == kind);
+            let all_reached = reached.len() == points.len();
+            assert_eq!(every_point_is_reached(recipe), all_reached);
             let (refusal, table) = planned(cell, recipe);
-            let accepted = refusal == 0;
+            let accepted = refusal == 0 && all_reached;
             let loops = |&point: &u8| points_after(recipe, point).contains(&point);
             self.realisable += usize::from(accepted);
             self.tests += usize::from(accepted && kind_met(TEST));
@@ -329,7 +345,7 @@ mod tests {
             self.silent_rings +=
                 usize::from(walk::has_silent_ring(cell, &Run::fresh().configuration));
             self.several_parts += usize::from(accepted && sizes.parts > 1);
-            self.forgotten_points += usize::from(reached.len() < points.len());
+            self.unreached_points += usize::from(!all_reached);
             self.one_end += usize::from(recipe.count == 1 && kind_met(END));
             self.no_parts += usize::from(sizes.parts == 0);
         }
@@ -359,7 +375,7 @@ mod tests {
                 transfers,
                 silent_rings,
                 several_parts,
-                forgotten_points,
+                unreached_points,
                 one_end,
                 no_parts,
                 no_end,
@@ -367,10 +383,15 @@ mod tests {
             } = counts;
             let often = [tests, transfers, silent_rings, several_parts, rework];
             assert!(often.iter().all(|&count| 20 * count > pairs));
-            let seldom = [forgotten_points, one_end, no_parts, no_end];
+            let seldom = [one_end, no_parts, no_end];
             let met = |count: &usize| 100 * count > pairs;
             assert!(seldom.iter().chain(&parallel).all(met));
+            assert_about_a_tenth(unreached_points, pairs);
         }
+    }
+
+    fn assert_about_a_tenth(count: usize, pairs: usize) {
+        assert!(14 * count > pairs && 7 * count < pairs, "{count}");
     }
 
     /// How often limits matter among limited pairs.
@@ -404,13 +425,16 @@ mod tests {
     fn limited_pairs_are_realisable_or_not_for_their_limits() {
         let mut random = Random(33);
         let mut counts = Limited::default();
+        let mut unreached_points = 0;
         let pairs = 2000;
         for _ in 0..pairs {
             let (cell, recipe) = limited_pair(400, &mut random);
             assert_eq!(check(&cell, &recipe), 0);
             assert!(Sizes::of(&cell, &recipe).positions <= 400);
             counts.add(&cell, &recipe);
+            unreached_points += usize::from(!every_point_is_reached(&recipe));
         }
+        assert_about_a_tenth(unreached_points, pairs);
         let Limited {
             realisable,
             overfull,

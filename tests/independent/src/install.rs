@@ -3,10 +3,10 @@
 //! is tried by itself.
 
 use crate::cell::{Cell, OPERATION};
-use crate::plan::{plan, try_lent};
+use crate::plan::{stored_table, try_lent};
 use crate::recipe::{Recipe, END};
 use crate::simulation::greatest_simulation;
-use crate::sizes::{scratch_bytes, Sizes};
+use crate::sizes::Sizes;
 use crate::table::MOST_LINES;
 use std::collections::BTreeSet;
 
@@ -50,7 +50,7 @@ fn try_install(
 }
 
 /// The processes of which each alone makes the recipe realisable, in the order of the list; none if it is
-/// so already. The cell and the recipe pass the rules before 14, and the cell has room for a line.
+/// so already. The cell and the recipe pass the rules 3 to 13, and the cell has room for a line.
 pub fn missing_processes(
     cell: &Cell,
     recipe: &Recipe,
@@ -69,11 +69,9 @@ pub fn realisable_by_joint_steps(cell: &Cell, recipe: &Recipe) -> bool {
     greatest_simulation(cell, recipe)[0]
 }
 
-/// Whether the planner finds a way from the start.
+/// Whether the planner's search finds a way from the start, on which unreached points have no say.
 pub fn realisable_by_single_moves(cell: &Cell, recipe: &Recipe) -> bool {
-    let positions = Sizes::of(cell, recipe).positions;
-    let mut table = vec![0; positions as usize];
-    plan(cell, recipe, &mut table, scratch_bytes(positions) as usize) == 0
+    stored_table(cell, recipe)[0] != 0
 }
 
 /// Every operation line that isn't in the cell, with states that its resource has and an operation that
@@ -128,11 +126,13 @@ fn with_process(cell: &Cell, [resource, from, operation, to]: Process) -> Cell {
 mod tests {
     use super::*;
     use crate::fixtures::{
-        bench, cell_of, either_pair, limit, limit_with_a_fifth_state, limited, recipe_of,
-        BENCH_CELL, BENCH_RECIPE,
+        bench, bench_with, cell_of, either_pair, limit, limit_with_a_fifth_state, limited,
+        recipe_of, BENCH_CELL, BENCH_RECIPE, PASTED_END, PASTED_LOOP,
     };
     use crate::random::Random;
+    use crate::recipe::every_point_is_reached;
     use crate::simulation::joint_choices;
+    use crate::sizes::scratch_bytes;
 
     /// The bench example's cell without one of its lines.
     fn bench_without(line: usize) -> Cell {
@@ -275,12 +275,37 @@ mod tests {
         assert_eq!(answer(&cell, &recipe, 1 << 20, 1 << 17), 21);
         assert_eq!(answer(&cell, &recipe, (1 << 20) - 1, 1 << 17), 14);
         assert_eq!(answer(&cell, &recipe, 1 << 20, (1 << 17) - 1), 14);
+        // Nothing leads to point 4 any more, whatever else is broken.
+        recipe.then[3] = 0;
+        assert_eq!(answer(&cell, &recipe, 1 << 20, 1 << 17), 22);
+        assert_eq!(answer(&cell, &recipe, 0, 0), 22);
+        cell.to[1] = 4;
+        assert_eq!(answer(&cell, &recipe, 1 << 21, 1 << 18), 22);
         recipe.then[3] = 16;
         assert_eq!(answer(&cell, &recipe, 0, 0), 4);
         cell.limits[3] = 7;
         assert_eq!(answer(&cell, &recipe, 0, 0), 20);
         cell.count = 65;
         assert_eq!(answer(&cell, &recipe, 0, 0), 3);
+    }
+
+    #[test]
+    fn a_recipe_with_an_unreached_point_gets_no_list() {
+        for pasted in [&PASTED_END[..], &PASTED_LOOP] {
+            let (whole, recipe) = bench_with(pasted);
+            // With a line missing and without.
+            for cell in [bench_without(3), whole] {
+                let refused = Install {
+                    refusal: 22,
+                    processes: vec![],
+                };
+                assert_eq!(install(&cell, &recipe, 200, 200), refused);
+                assert_eq!(install(&cell, &recipe, 0, 0), refused);
+            }
+            // Without that rule the list would be the bench example's.
+            let missing = missing_processes(&bench_without(3), &recipe, realisable_by_single_moves);
+            assert_eq!(missing, [[1, 1, 2, 2]]);
+        }
     }
 
     #[test]
@@ -302,7 +327,8 @@ mod tests {
             for recipe in [&recipe, &last.1] {
                 let tries = candidates(&cell, recipe).len() as u64 + 1;
                 let room = usize::from(cell.count) < MOST_LINES;
-                if room && joint_choices(&cell, recipe) * tries < 20_000 {
+                let may_be_listed = room && every_point_is_reached(recipe);
+                if may_be_listed && joint_choices(&cell, recipe) * tries < 20_000 {
                     let listed = listed(&cell, recipe);
                     let lacks = !realisable_by_joint_steps(&cell, recipe);
                     compared += 1;

@@ -38,11 +38,11 @@ pub use install::{
 };
 pub use judge::{judge, Fault, FEW_JOINT_CHOICES};
 pub use limits::{is_overfull, read_limits, LIMITS_NAMES};
-pub use plan::plan;
+pub use plan::{check_to_plan, plan, stored_table};
 pub use random::Random;
 pub use recipe::{
-    check_recipe, read_recipe, recipe_bytes, recipe_of_bytes, Recipe, RecipeReading, RECIPE_BYTES,
-    RECIPE_NAMES,
+    check_recipe, every_point_is_reached, reached_points, read_recipe, recipe_bytes,
+    recipe_of_bytes, Recipe, RecipeReading, RECIPE_BYTES, RECIPE_NAMES,
 };
 pub use run::{check, run_bytes, run_of_bytes, NextMove, Place, Report, Run, RUN_BYTES};
 pub use simulation::{greatest_simulation, joint_choices};

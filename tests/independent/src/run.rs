@@ -48,9 +48,19 @@ pub fn check(cell: &Cell, recipe: &Recipe) -> u8 {
 }
 
 /// The sizes of a cell and a recipe that break none of the rules 3 to 13, or the first that they do.
-pub(crate) fn try_records(cell: &Cell, recipe: &Recipe) -> Result<Sizes, u8> {
+fn try_records(cell: &Cell, recipe: &Recipe) -> Result<Sizes, u8> {
+    try_each_record(cell, recipe)?;
+    try_positions(cell, recipe)
+}
+
+/// The rules 3 to 12, which are about one record: all of the cell's before the recipe's.
+pub(crate) fn try_each_record(cell: &Cell, recipe: &Recipe) -> Result<(), u8> {
     try_rules(check_cell(cell))?;
-    try_rules(check_recipe(recipe))?;
+    try_rules(check_recipe(recipe))
+}
+
+/// Rule 13, for records that pass the rules 3 to 12.
+pub(crate) fn try_positions(cell: &Cell, recipe: &Recipe) -> Result<Sizes, u8> {
     let sizes = Sizes::of(cell, recipe);
     if sizes.positions > MOST_POSITIONS {
         return Err(13);
@@ -179,7 +189,8 @@ pub fn run_of_bytes(bytes: &[u8]) -> Run {
 mod tests {
     use super::*;
     use crate::fixtures::{
-        bench, bench_table, cell_of, limit, limit_with_a_fifth_state, recipe_of, BENCH_CELL,
+        bench, bench_table, bench_with, cell_of, limit, limit_with_a_fifth_state, recipe_of,
+        BENCH_CELL, PASTED_END, PASTED_LOOP,
     };
 
     /// The run at a position of the bench example.
@@ -229,6 +240,30 @@ mod tests {
         let end = run.next_move(&cell, &recipe, &table);
         assert_eq!((end.refusal, end.entry), (0, 67_108_864));
         assert_eq!(refusals(&table, run), [0, 19, 19, 17]);
+    }
+
+    #[test]
+    fn a_recipe_with_an_unreached_point_is_run_with_a_stored_table() {
+        for pasted in [&PASTED_END[..], &PASTED_LOOP] {
+            let (cell, recipe) = bench_with(pasted);
+            assert_eq!(check(&cell, &recipe), 0);
+            let mut table = bench_table();
+            table.resize(Sizes::of(&cell, &recipe).positions as usize, 67_108_864);
+            let mut run = Run::fresh();
+            for (outcome, next) in [(0, 22), (0, 26), (1, 50), (0, 72)] {
+                assert_eq!(run.next_move(&cell, &recipe, &table).refusal, 0);
+                assert_eq!(run.place(&cell, &recipe, 0).refusal, 0);
+                let report = run.report(&cell, &recipe, &table, outcome);
+                assert_eq!((report.refusal, report.run), (0, run_at(next)));
+                run = report.run;
+            }
+            assert_eq!(run.report(&cell, &recipe, &table, 1).refusal, 19);
+            // A run at the forgotten point is one as any other.
+            run.point = 5;
+            let at_end = pasted.len() == 1;
+            let next_move = run.next_move(&cell, &recipe, &table);
+            assert_eq!(next_move.refusal, if at_end { 0 } else { 18 });
+        }
     }
 
     #[test]

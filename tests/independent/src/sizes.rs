@@ -33,7 +33,7 @@ impl Configuration {
     };
 }
 
-/// The numbers of a cell and a recipe that pass the rules before 13.
+/// The numbers of a cell and a recipe that pass the rules 3 to 12.
 #[derive(Clone, Debug, PartialEq, Eq)]
 pub struct Sizes {
     /// R, the number of resources.

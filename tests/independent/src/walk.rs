@@ -71,7 +71,7 @@ fn try_call(refusal: u8) -> Result<(), u8> {
 mod tests {
     use super::*;
     use crate::cell::CELL_NAMES;
-    use crate::fixtures::{BENCH_CELL, BENCH_RECIPE};
+    use crate::fixtures::{BENCH_CELL, BENCH_RECIPE, PASTED_END, PASTED_LOOP};
     use crate::recipe::RECIPE_NAMES;
     use crate::table::tests::file_of;
 
@@ -98,6 +98,22 @@ mod tests {
         assert_eq!(bench(b"1111"), passed);
         let reworked = format!("{TO_THE_TEST}26,50331651,68\n68,50331652,0\n0,50331648,22\n");
         assert_eq!(bench(b"00000"), reworked);
+    }
+
+    #[test]
+    fn an_unreached_point_is_refused_before_the_first_move() {
+        let cell = file_of(CELL_NAMES, &BENCH_CELL);
+        for pasted in [&PASTED_END[..], &PASTED_LOOP] {
+            let mut points = [&BENCH_RECIPE[..], pasted].concat();
+            for (third, refused) in [("2,1,3,1,0,4,0", 22), ("2,1,3,1,0,7,0", 12)] {
+                points[2] = third;
+                let recipe = file_of(RECIPE_NAMES, &points);
+                for input in [&b""[..], b"0010", b"9"] {
+                    let printed = lines(Some(&cell), Some(&recipe), input);
+                    assert_eq!(printed, format!("refused,{refused}\n"));
+                }
+            }
+        }
     }
 
     #[test]

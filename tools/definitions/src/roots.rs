@@ -26,19 +26,27 @@ pub struct Group {
 }
 
 /// The closing theorems: a file, and the names of those in it that close the argument.
-const THEOREMS: &[Root] = &[Root::Theorems(
-    "crates/planner/proofs/Demands.antt",
-    &[
-        "accepted-realisable",
-        "realisable-accepted",
-        "unrealisable-refused",
-        "entry-exactly",
-        "refused-breaks",
-        "accepted-rules",
-        "demand-3",
-        "never-overfull",
-    ],
-)];
+const THEOREMS: &[Root] = &[
+    Root::Theorems(
+        "crates/reached/proofs/Chains.antt",
+        &["is-reached", "reached-is"],
+    ),
+    Root::Theorems(
+        "crates/planner/proofs/Demands.antt",
+        &[
+            "accepted-realisable",
+            "realisable-accepted",
+            "unrealisable-refused",
+            "entry-exactly",
+            "refused-breaks",
+            "accepted-rules",
+            "demand-3",
+            "never-overfull",
+            "accepted-reached",
+            "unreached-refused",
+        ],
+    ),
+];
 
 pub const GROUPS: &[Group] = &[
     Group {

@@ -5,13 +5,51 @@ use std::fs;
 use definitions::print;
 use definitions::reading::Reading;
 use definitions::repository::{root, Repository};
-use definitions::roots::GROUPS;
+use definitions::roots::{Calls, Group, Root, GROUPS};
 
 const SECTION: &str = "\n## What to read\n";
 
-fn reading() -> Reading {
+/// The C interface.
+const CALLS: &str = "crates/capi/src/lib.rt";
+
+/// Its calls that plan, and all others that are handed a recipe or its file.
+const PLAN: Group = Group {
+    title: "plan",
+    roots: &[Root::Contracts(CALLS, Calls::Named(&["cellplan_plan"]))],
+};
+const INSTALL: Group = Group {
+    title: "install",
+    roots: &[Root::Contracts(CALLS, Calls::Named(&["cellplan_install"]))],
+};
+const OTHERS: Group = Group {
+    title: "the others",
+    roots: &[Root::Contracts(
+        CALLS,
+        Calls::Named(&[
+            "cellplan_read_recipe",
+            "cellplan_check",
+            "cellplan_next_move",
+            "cellplan_report",
+            "cellplan_report_record",
+            "cellplan_place",
+        ]),
+    )],
+};
+
+fn read(groups: &[Group]) -> Reading {
     let repository = Repository::open(root()).expect("the repository can be read");
-    Reading::of(&repository, GROUPS)
+    Reading::of(&repository, groups)
+}
+
+fn reading() -> Reading {
+    read(GROUPS)
+}
+
+/// Whether a contract of these calls reaches the definition.
+fn reaches(calls: Group, definition: &str) -> bool {
+    let reading = read(&[calls]);
+    let mut entries = reading.definitions.iter().flat_map(|file| &file.entries);
+    entries.any(|entry| entry.name == definition)
 }
 
 #[test]
@@ -34,4 +72,12 @@ fn the_claims_say_what_to_read() {
         "docs/CLAIMS.md: put what `cargo run --offline --release -p definitions -- --table` prints \
          in the place of the table in \"What to read\""
     );
+}
+
+#[test]
+fn only_calls_that_plan_try_rule_22() {
+    assert!(reaches(PLAN, "rule22"));
+    assert!(reaches(INSTALL, "rule22"));
+    assert!(reaches(OTHERS, "rule12"), "they check recipes");
+    assert!(!reaches(OTHERS, "rule22"));
 }

@@ -9,7 +9,7 @@ use Rattle.refusals.proofs.Verdicts.{count-in-range}
 use Rattle.cell.proofs.AcceptedRecord.{each-accepts}
 use Rattle.simulation.specs.Simulation.{Greatest}
 use Rattle.marks.proofs.MarkSets.{same-room}
-use Rattle.planner.proofs.PlanAnswers.{records-refused, lent-checked, rules-passed}
+use Rattle.planner.proofs.PlanAnswers.{records-refused, call-checked, rules-passed}
 use Rattle.install.proofs.InstallAnswers.{plan-refused, full-refused, free-accepted, install-refused, install-none, install-listed}
 use borrow.Author.Needs.{needs}
 use borrow.Author.Needs.{length-unmapped}
@@ -33,8 +33,8 @@ returns c =
 measure-requires : tie.Need-measure-requires
 measure-requires c κs = both-ok _ _ (sym (c .before .before .check-records .ensures) ∙ c .enum-told .given .1)
 
-check-lent-requires : tie.Need-check-lent-requires
-check-lent-requires c κs = search needs
+check-call-requires : tie.Need-check-call-requires
+check-call-requires c κs = both-ok _ _ (sym (c .before .before .before .check-records .ensures) ∙ c .before .enum-told .given .1) .1
 
 enum-told-3 : tie.Need-enum-told-3
 enum-told-3 c = search needs
@@ -48,36 +48,36 @@ returns-2 c =
     let told = c .enum-told4 .given .1 in
     install-refused _ _ _ _ _
     (plan-refused _ _ _ _
-    (lent-checked _ _ _ _ (fine .before .before .check-records .ensures) (fine .enum-told .given .1)
-    (c .before .before .before .measure .ensures .0) (c .before .before .check-lent .ensures))
+    (call-checked _ _ _ _ (fine .before .before .check-records .ensures) (fine .enum-told .given .1)
+    (c .before .before .before .measure .ensures .0) (c .before .before .check-call .ensures))
     told)
     told
 
 returns-3 : tie.Need-returns-3
 returns-3 c =
     let told = c .before .before in
-    let lent = told .before .before in
-    let sized = lent .before in
+    let called = told .before .before in
+    let sized = called .before in
     let fine = sized .before in
     let records = fine .before .before in
     let start = records .before .before .before .before in
     let passed =
     rules-passed _ _ (start .args .table .now) (start .args .scratch .now) (records .check-records .ensures)
-    (fine .enum-told .given .1) (sized .measure .ensures .0) (lent .check-lent .ensures)
+    (fine .enum-told .given .1) (sized .measure .ensures .0) (called .check-call .ensures)
     (told .enum-told3 .given .1) in
     install-refused _ _ _ _ _ (full-refused _ _ _ _ (passed .accepted) (c .if1 .taken)) refl
 
 is-realisable-requires : tie.Need-is-realisable-requires
 is-realisable-requires c κs =
     let told = c .before .before .before .before in
-    let lent = told .before .before in
-    let sized = lent .before in
+    let called = told .before .before in
+    let sized = called .before in
     let fine = sized .before in
     let records = fine .before .before in
     let start = records .before .before .before .before in
     let passed =
     rules-passed _ _ (start .args .table .now) (start .args .scratch .now) (records .check-records .ensures)
-    (fine .enum-told .given .1) (sized .measure .ensures .0) (lent .check-lent .ensures)
+    (fine .enum-told .given .1) (sized .measure .ensures .0) (called .check-call .ensures)
     (told .enum-told3 .given .1) in
     (passed .checked, (passed .long, passed .roomy))
 
@@ -92,14 +92,14 @@ returns-4 c =
     let decided = c .before .before .before .before .before in
     let free = decided .before .before .before in
     let told = free .before .before in
-    let lent = told .before .before in
-    let sized = lent .before in
+    let called = told .before .before in
+    let sized = called .before in
     let fine = sized .before in
     let records = fine .before .before in
     let start = records .before .before .before .before in
     let passed =
     rules-passed _ _ (start .args .table .now) (start .args .scratch .now) (records .check-records .ensures)
-    (fine .enum-told .given .1) (sized .measure .ensures .0) (lent .check-lent .ensures)
+    (fine .enum-told .given .1) (sized .measure .ensures .0) (called .check-call .ensures)
     (told .enum-told3 .given .1) in
     let count = count-in-range _ (each-accepts _ (passed .checked .cell-passes) .third) .most in
     let other : start .args .cell .count ≡ 64 → ⊥ = free .if1 .left in
@@ -113,14 +113,14 @@ seek-requires c κs =
     let decided = c .before .before .before .before .before .before .before .before in
     let free = decided .before .before .before in
     let told = free .before .before in
-    let lent = told .before .before in
-    let sized = lent .before in
+    let called = told .before .before in
+    let sized = called .before in
     let fine = sized .before in
     let records = fine .before .before in
     let start = records .before .before .before .before in
     let passed =
     rules-passed _ _ (start .args .table .now) (start .args .scratch .now) (records .check-records .ensures)
-    (fine .enum-told .given .1) (sized .measure .ensures .0) (lent .check-lent .ensures)
+    (fine .enum-told .given .1) (sized .measure .ensures .0) (called .check-call .ensures)
     (told .enum-told3 .given .1) in
     let count = count-in-range _ (each-accepts _ (passed .checked .cell-passes) .third) .most in
     let other : start .args .cell .count ≡ 64 → ⊥ = free .if1 .left in
@@ -156,14 +156,14 @@ returns-5 c =
     let decided = sought .before .before .before .before .before .before .before .before .before in
     let free = decided .before .before .before in
     let told = free .before .before in
-    let lent = told .before .before in
-    let sized = lent .before in
+    let called = told .before .before in
+    let sized = called .before in
     let fine = sized .before in
     let records = fine .before .before in
     let start = records .before .before .before .before in
     let passed =
     rules-passed _ _ (start .args .table .now) (start .args .scratch .now) (records .check-records .ensures)
-    (fine .enum-told .given .1) (sized .measure .ensures .0) (lent .check-lent .ensures)
+    (fine .enum-told .given .1) (sized .measure .ensures .0) (called .check-call .ensures)
     (told .enum-told3 .given .1) in
     let count = count-in-range _ (each-accepts _ (passed .checked .cell-passes) .third) .most in
     let other : start .args .cell .count ≡ 64 → ⊥ = free .if1 .left in
@@ -194,7 +194,7 @@ install-spec =
     enum-told-2
     returns
     measure-requires
-    check-lent-requires
+    check-call-requires
     enum-told-3
     enum-told-4
     returns-2

@@ -4,6 +4,7 @@
 use super::{cell_of_lines, recipe_of_lines, walk, CellLine, RecipeLine, Shape, END_LINE};
 use crate::cell::{Cell, IN, INTERNAL, OPERATION, OUT};
 use crate::install::realisable_by_single_moves;
+use crate::plan::check_to_plan;
 use crate::random::Random;
 use crate::recipe::{Recipe, DO, TEST};
 use crate::run::check;
@@ -34,7 +35,8 @@ pub fn dense_pair() -> (Cell, Recipe) {
 }
 
 /// Three stations of four states each, five parts and 16 points, which are as many positions as there
-/// may be; so many cell lines, and so many silent moves in all. The recipe is written along a walk.
+/// may be; so many cell lines, and so many silent moves in all. The recipe is written along a walk, and
+/// each of its points is reached.
 pub fn mixed_pair(lines: usize, silent_moves: usize, random: &mut Random) -> (Cell, Recipe) {
     let shape = Shape {
         wide: false,
@@ -48,7 +50,8 @@ pub fn mixed_pair(lines: usize, silent_moves: usize, random: &mut Random) -> (Ce
             continue;
         }
         let recipe = recipe_of_lines(&walk::recipe_lines(&cell, &shape, random));
-        if check(&cell, &recipe) == 0 && Sizes::of(&cell, &recipe).positions == MOST_POSITIONS {
+        let greatest = || Sizes::of(&cell, &recipe).positions == MOST_POSITIONS;
+        if check_to_plan(&cell, &recipe) == 0 && greatest() {
             return (cell, recipe);
         }
     }

@@ -1,0 +1,69 @@
+-- The bench example with a forgotten point, run with a stored table of 108 entries: next-move, reports and the promises of demand 3.
+-- Computed. Assumes nothing.
+use mathlib.Core.Path.{_≡_, refl}
+use Rattle.refusals.specs.declared.Verdict.the-variants.{Accepted}
+use Rattle.refusals.specs.Search.{firstBelow, anyBelow, allBelow, countBelow, greatestBelow, tabulate, isOf, every}
+use Rattle.refusals.specs.Verdict.{firstRefusal, firstLine, noLine, rule3, refusalIn, ifAccepted, lineVerdict}
+use Rattle.cell.specs.Rules as cell
+use Rattle.recipe.specs.Rules as recipe
+use Rattle.positions.specs.Radix.{sumBelow, productBelow}
+use Rattle.positions.specs.Sizes.{stateCount, stateCounts, partsIn, partCount, jointCount, sizesFor, sizesOf, farthest}
+use Rattle.positions.specs.Position.{start, stateNumber, placeNumber, positionOf, entryOf, stateWeight}
+use Rattle.positions.specs.Rules.{recordRules, rule13, rule14, placeCount, isPosition, rule16, placeFits, stateFits}
+use Rattle.steps.specs.Lines.{firstLineOf, linesOf, kindOf, thenOf, elseOf, isTaken, isGiven}
+use Rattle.steps.specs.Limits.{load, keepsLimits, noneOverfull}
+use Rattle.steps.specs.Joint.{mayDo, acts, actsOn, howMany, portFits, isStep, isSilentStep, stateAfter, receiver, handed, placeAfter, after, isSilent}
+use Rattle.steps.specs.Carry.{serves, matches, standsAt, present, free, suits, carries, putThere, placed, partsMoved, afterCarry, isFree}
+use Rattle.steps.specs.Entry.{entryKind, letter, unused, lettersUsed, isLine, isFormed, only, stepOf, mayBeTaken}
+use Rattle.steps.specs.Effect.{taken, effect, isMove, opens, leaves, makes, leadsTo}
+use Rattle.run.specs.Calls.{freshRun, tableRules, entryRules, rule17, rule18, rule19, moveRules, reportRules, nextMove, nextRun, reportOf}
+use Rattle.run.specs.Book.{opened, byTable, atEnd, isOpen, refusalOf, setTo, movedTo, configurationAfter, pointAfter}
+use Rattle.run.specs.Book.{made, isAccepted, turned, noted, answer, moments, answers, issuedBy, issued}
+use Rattle.run.specs.Promises.{Promises, agree, rightly, neverShut, everyIssue, wasOpen, ofCarries, foundParts, carriedPoint, fewSilent, neverOverfull}
+use Rattle.run.proofs.CallsByValue.{runAfter, runAnswer, runAnswers, chain-answers}
+use Rattle.worked.specs.Moves.{filled, benchCell, benchEntry}
+use Rattle.worked.specs.Unreached.{forgottenRecipe, storedTable}
+use Rattle.worked.proofs.BenchPromises.{benchCalls}
+
+pub record StoredRun : Type 0 where
+  -- "run with a stored table": the first move is that of the bench example, and is reported
+  pub first-move : nextMove benchCell forgottenRecipe storedTable freshRun ≡ record { verdict = Accepted; entry = 50331648 }
+  pub first-report : reportOf benchCell forgottenRecipe storedTable freshRun 0 .verdict ≡ Accepted
+  -- the list of calls that the bench example is followed through, to its end, keeps every promise
+  pub promises : Promises benchCell forgottenRecipe (sizesOf benchCell forgottenRecipe) storedTable 0 start benchCalls
+
+pub stored-run : StoredRun
+unfolding isOf firstBelow anyBelow allBelow countBelow greatestBelow tabulate firstRefusal firstLine noLine rule3 cell.leavesRange
+    cell.rule4 cell.greatestResource cell.rule5 cell.otherAct cell.partner cell.unpaired cell.limitInRange cell.limitLeavesRange
+    cell.rule4Limits cell.rule6 cell.limitsAbsent cell.rule20 cell.cellRules recipe.leavesRange recipe.rule4 recipe.breaksOrder recipe.rule7
+    recipe.clashes recipe.breaksRepeat recipe.rule8 recipe.breaksUnused recipe.rule9 recipe.lacksParts recipe.rule10 recipe.holdsPart
+    recipe.common recipe.sharesPart recipe.rule11 recipe.pointCount recipe.leadsOut recipe.rule12 recipe.recipeRules sumBelow productBelow
+    stateCount stateCounts partsIn partCount jointCount sizesFor start stateNumber placeNumber positionOf recordRules rule13 rule14
+    placeCount isPosition rule16 firstLineOf linesOf kindOf thenOf elseOf isTaken isGiven freshRun entryOf tableRules entryRules rule17 rule18 rule19
+    moveRules reportRules nextMove nextRun reportOf opened byTable atEnd isOpen refusalOf setTo movedTo configurationAfter pointAfter made
+    isAccepted turned noted answer moments answers issuedBy issued refusalIn runAfter runAnswer runAnswers every agree rightly neverShut
+    everyIssue wasOpen foundParts carriedPoint fewSilent neverOverfull filled benchCell benchEntry forgottenRecipe storedTable mayDo acts actsOn
+    howMany portFits isStep isSilentStep load keepsLimits noneOverfull suits stateAfter receiver handed placeAfter after serves matches
+    standsAt present free carries putThere placed partsMoved afterCarry entryKind letter unused lettersUsed isLine isFormed only stepOf
+    mayBeTaken ifAccepted ofCarries taken effect isMove opens leaves makes leadsTo cell.inRange cell.gap cell.hasNoLine recipe.inRange
+    recipe.hasUnused farthest stateWeight stateFits placeFits isSilent isFree lineVerdict
+stored-run =
+    record {
+      first-move = refl;
+      first-report = refl;
+      promises =
+          record {
+            same-answers = λ told chain. chain-answers benchCell forgottenRecipe storedTable
+                (record { point = 0; configuration = start }) benchCalls told chain;
+            keeps =
+                record {
+                  refused-at-ends = refl;
+                  never-shut = refl;
+                  moves-open = refl;
+                  parts-found = refl;
+                  points-followed = refl;
+                  silent-few = refl;
+                  none-overfull = refl;
+                };
+          };
+    }
