@@ -83,9 +83,9 @@
  *         before doesn't matter.
  *     19  Report: the run is at an end.
  * A call that is handed records tries the cell's rules from 3 on, then the recipe's from 3 to 12, then 22
- * if it plans, then those from 13 on that are its own; read_limits tries the cell's from 3 on, and then its file's from 1
- * on. A call that refuses changes nothing, but for read_cell and read_recipe, which write a record of no
- * lines, and for the planner where it refuses with 15.
+ * if it plans, then those from 13 on that are its own; read_limits tries the cell's from 3 on, and then
+ * its file's from 1 on. A call that refuses changes nothing, but for read_cell and read_recipe, which write
+ * a record of no lines, and for the planner where it refuses with 15.
  */
 #ifndef CELLPLAN_H
 #define CELLPLAN_H
@@ -168,7 +168,8 @@ size_t cellplan_line_length(const uint8_t *file, size_t file_length, size_t n);
 
 /*
  * Checks a cell record and a recipe record: the result is the first refusal of the rules 3 to 13, 20 in
- * its place among them and 22 not, or 0. Which line breaks a rule is not said; a reader says that of the file.
+ * its place among them and 22 not, or 0. Which line breaks a rule is not said; a reader says that of the
+ * file.
  */
 uint32_t cellplan_check(const uint8_t *cell, size_t cell_length,
                         const uint8_t *recipe, size_t recipe_length);
@@ -193,8 +194,8 @@ uint32_t cellplan_plan(const uint8_t *cell, size_t cell_length,
  * line has a resource of the cell, states that this resource has already, and the operation of a do or a
  * test of the recipe. Nothing is listed if the cell can build the recipe as it is. The result is
  *     refusal * 2^32 + count,
- * with count 0 if refused. The last refusals are tried in the order 22, 13, 14, 21; the last of them is given
- * also if nothing is lacking, and 15 never. Accepted, the list gets, for each process,
+ * with count 0 if refused. The last refusals are tried in the order 22, 13, 14, 21; 21 is given also if
+ * nothing is lacking, and 15 never. Accepted, the list gets, for each process,
  *     resource, from, operation, to,
  * rising by these four numbers in this order, each once, as far as whole ones fit. The bytes of the list
  * past these stay as they were, and the count is that of all processes, those too for which there was no

@@ -28,7 +28,7 @@ use Rattle.install.proofs.OneList.{listed-once}
 use Rattle.worked.specs.Moves.{benchCell, benchRecipe}
 use Rattle.worked.specs.Installed.{line, untestedCell, unfedCell, testingLines, feedingLines, turnedCell, turnedRecipe, turningLines}
 use Rattle.worked.specs.Installed.{singleCell, singleRecipe, singleLines, fullCell}
-use Rattle.worked.proofs.LedRecipes.{led as reached}
+use Rattle.worked.proofs.LedRecipes.{led-recipes}
 use Rattle.worked.proofs.LentLengths.{check-passes, check-short}
 use Rattle.worked.proofs.BenchPlan.{computed as bench, bench-planned}
 use Rattle.worked.proofs.InstallPlans.{computed, untested-fails, untested-listed, unfed-fails, unfed-listed, turned-fails}
@@ -153,7 +153,7 @@ module _ (table scratch list table′ scratch′ list′ : List ℕ) (answer : L
       pub untested-called : Lists testingLines 1 (call .lines) list list′ answer
       unfolding testingLines
       untested-called =
-          call-lists untestedCell benchRecipe (computed .untested .sized) (reached .bench) table scratch list table′ scratch′ list′ answer call
+          call-lists untestedCell benchRecipe (computed .untested .sized) (led-recipes .bench) table scratch list table′ scratch′ list′ answer call
           (omega (arith, computed .untested-positions)) (omega (arith, computed .untested-positions)) (ltb-true _ 64 (computed .untested .free))
           untested-fails testingLines 1 untested-listed refl
 
@@ -170,7 +170,7 @@ module _ (table scratch list table′ scratch′ list′ : List ℕ) (answer : L
       pub unfed-called : Lists feedingLines 2 (call .lines) list list′ answer
       unfolding feedingLines
       unfed-called =
-          call-lists unfedCell benchRecipe (computed .unfed .sized) (reached .bench) table scratch list table′ scratch′ list′ answer call
+          call-lists unfedCell benchRecipe (computed .unfed .sized) (led-recipes .bench) table scratch list table′ scratch′ list′ answer call
           (omega (arith, computed .unfed-positions)) (omega (arith, computed .unfed-positions)) (ltb-true _ 64 (computed .unfed .free))
           unfed-fails feedingLines 2 unfed-listed refl
 
@@ -186,7 +186,7 @@ module _ (table scratch list table′ scratch′ list′ : List ℕ) (answer : L
       → Lists turningLines 3 (call .lines) list list′ answer
   unfolding turningLines
   turned-called call long wide =
-      call-lists turnedCell turnedRecipe (computed .turned .sized) (reached .turned) table scratch list table′ scratch′ list′ answer call
+      call-lists turnedCell turnedRecipe (computed .turned .sized) (led-recipes .turned) table scratch list table′ scratch′ list′ answer call
       (omega (arith, computed .turned-positions)) (omega (arith, computed .turned-positions)) (ltb-true _ 64 (computed .turned .free))
       turned-fails turningLines 3 turned-listed refl
 
@@ -198,7 +198,7 @@ module _ (table scratch list table′ scratch′ list′ : List ℕ) (answer : L
       → Lists singleLines 1 (call .lines) list list′ answer
   unfolding singleLines
   single-called call long wide =
-      call-lists singleCell (singleRecipe 2) (computed .single .sized) (reached .single 2) table scratch list table′ scratch′ list′ answer call
+      call-lists singleCell (singleRecipe 2) (computed .single .sized) (led-recipes .single 2) table scratch list table′ scratch′ list′ answer call
       (omega (arith, computed .single-positions)) (omega (arith, computed .single-positions)) (ltb-true _ 64 (computed .single .free))
       single-fails singleLines 1 single-listed refl
 
@@ -210,7 +210,7 @@ module _ (table scratch list table′ scratch′ list′ : List ℕ) (answer : L
       → NoneNeeded list list′ answer
   unfolding benchCell
   bench-needs-none call long wide =
-      call-needs-none benchCell benchRecipe (bench .sized) (reached .bench) table scratch list table′ scratch′ list′ answer call
+      call-needs-none benchCell benchRecipe (bench .sized) (led-recipes .bench) table scratch list table′ scratch′ list′ answer call
       (omega (arith, bench .positions)) (omega (arith, bench .positions)) (ltb-true 5 64 refl) (bench-planned .accepted-holds refl)
 
   -- with 11 bytes of scratch
@@ -220,7 +220,7 @@ module _ (table scratch list table′ scratch′ list′ : List ℕ) (answer : L
       → length scratch ≤ 11
       → Refuses TooShort table scratch list table′ scratch′ list′ answer
   bench-short call long narrow =
-      call-short benchCell benchRecipe (bench .sized) (reached .bench) table scratch list table′ scratch′ list′ answer call
+      call-short benchCell benchRecipe (bench .sized) (led-recipes .bench) table scratch list table′ scratch′ list′ answer call
       (omega (arith, bench .positions)) (omega (arith, bench .positions))
 
   -- a cell of 64 lines
@@ -230,5 +230,5 @@ module _ (table scratch list table′ scratch′ list′ : List ℕ) (answer : L
       → 1 ≤ length scratch
       → Refuses FullCell table scratch list table′ scratch′ list′ answer
   full-called call long wide =
-      call-full fullCell (singleRecipe 1) (computed .full-sized) (reached .single 1) table scratch list table′ scratch′ list′ answer call
+      call-full fullCell (singleRecipe 1) (computed .full-sized) (led-recipes .single 1) table scratch list table′ scratch′ list′ answer call
       (omega (arith, computed .full-positions)) (omega (arith, computed .full-positions)) (computed .full-count)

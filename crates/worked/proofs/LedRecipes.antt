@@ -11,7 +11,7 @@ use Rattle.worked.specs.Plans.{deadRecipe, endRecipe}
 use Rattle.worked.specs.Limited.{glueRecipe, mendRecipe, nestRecipe}
 use Rattle.worked.specs.Installed.{turnedRecipe, singleRecipe}
 
-pub record Led : Type 0 where
+pub record LedRecipes : Type 0 where
   pub bench : rule22 benchRecipe ≡ Accepted
   pub dead : rule22 deadRecipe ≡ Accepted
   pub end : rule22 endRecipe ≡ Accepted
@@ -22,10 +22,10 @@ pub record Led : Type 0 where
   pub turned : rule22 turnedRecipe ≡ Accepted
   pub single : (operation : ℕ) → rule22 (singleRecipe operation) ≡ Accepted
 
-pub led : Led
+pub led-recipes : LedRecipes
 unfolding isOf anyBelow countBelow tabulate noLine pointCount leads lineLeads leadsOn chained isReached rule22 filled benchRecipe deadRecipe
     endRecipe limitRecipe glueRecipe mendRecipe nestRecipe turnedRecipe singleRecipe
-led =
+led-recipes =
     record {
       bench = refl;
       dead = refl;

@@ -17,7 +17,7 @@ use Rattle.planner.specs.Call.{PlanCall}
 use Rattle.planner.proofs.Demands.{demand-3}
 use Rattle.worked.specs.Limited.{glueCell, glueRecipe, glueSizes, mendCell, mendRecipe, mendSizes}
 use Rattle.worked.specs.Limited.{nestCell, nestRecipe, nestSizes, twoParts, twoHandedOver}
-use Rattle.worked.proofs.LedRecipes.{led}
+use Rattle.worked.proofs.LedRecipes.{led-recipes}
 use Rattle.worked.proofs.LentLengths.{check-passes, call-accepts, call-refuses}
 use Rattle.worked.proofs.OverfullPositions.{overfull-called}
 use Rattle.worked.proofs.LimitPlans.{computed, glue-of-two, glue-of-one, overfull-end, mend-realisable, mending, nest-of-two, nest-of-one}
@@ -49,7 +49,7 @@ module _ (table scratch table′ scratch′ : List ℕ) (verdict : Verdict) wher
       → 2 ≤ length scratch
       → verdict ≡ Accepted
   glue-two-called call long wide =
-      call-accepts (glueCell 2) glueRecipe (computed .two-sized) (led .glue) table scratch table′ scratch′ verdict call
+      call-accepts (glueCell 2) glueRecipe (computed .two-sized) (led-recipes .glue) table scratch table′ scratch′ verdict call
       (omega (arith, computed .two-positions)) (omega (arith, computed .two-positions)) glue-of-two
 
   pub glue-one-called :
@@ -62,11 +62,11 @@ module _ (table scratch table′ scratch′ : List ℕ) (verdict : Verdict) wher
       let fits : glueSizes 1 .positions ≤ length table = omega (arith, computed .one-positions) in
       let roomy : (glueSizes 1 .positions + 7) / 8 ≤ length scratch = omega (arith, computed .one-positions) in
       record {
-        refused = call-refuses (glueCell 1) glueRecipe (computed .one-sized) (led .glue) table scratch table′ scratch′ verdict call fits roomy glue-of-one;
+        refused = call-refuses (glueCell 1) glueRecipe (computed .one-sized) (led-recipes .glue) table scratch table′ scratch′ verdict call fits roomy glue-of-one;
         entry-11 =
             sym (ap (λ (m : ℕ). getD table′ m 0) (overfull-end .number))
             ∙ overfull-called (glueCell 1) glueRecipe table scratch table′ scratch′ verdict call
-            (check-passes (glueCell 1) glueRecipe (computed .one-sized) (led .glue) (length table) (length scratch) fits roomy) 2 twoParts
+            (check-passes (glueCell 1) glueRecipe (computed .one-sized) (led-recipes .glue) (length table) (length scratch) fits roomy) 2 twoParts
             (overfull-end .position) (overfull-end .overfull);
       }
 
@@ -79,9 +79,9 @@ module _ (table scratch table′ scratch′ : List ℕ) (verdict : Verdict) wher
   mend-called call long wide =
       let fits : mendSizes .positions ≤ length table = omega (arith, computed .mend-positions) in
       let roomy : (mendSizes .positions + 7) / 8 ≤ length scratch = omega (arith, computed .mend-positions) in
-      let passes = check-passes mendCell mendRecipe (computed .mend-sized) (led .mend) (length table) (length scratch) fits roomy in
+      let passes = check-passes mendCell mendRecipe (computed .mend-sized) (led-recipes .mend) (length table) (length scratch) fits roomy in
       record {
-        accepted = call-accepts mendCell mendRecipe (computed .mend-sized) (led .mend) table scratch table′ scratch′ verdict call fits roomy mend-realisable;
+        accepted = call-accepts mendCell mendRecipe (computed .mend-sized) (led-recipes .mend) table scratch table′ scratch′ verdict call fits roomy mend-realisable;
         entry-58 =
             sym (ap (λ (m : ℕ). getD table′ m 0) (mending .number))
             ∙ overfull-called mendCell mendRecipe table scratch table′ scratch′ verdict call passes 2 twoParts (mending .position) (mending .overfull);
@@ -97,7 +97,7 @@ module _ (table scratch table′ scratch′ : List ℕ) (verdict : Verdict) wher
       → Nested table′ verdict
   nest-two-called call long wide =
       let is : verdict ≡ Accepted =
-      call-accepts (nestCell 8 2) nestRecipe (computed .nest-two-sized) (led .nest) table scratch table′ scratch′ verdict call
+      call-accepts (nestCell 8 2) nestRecipe (computed .nest-two-sized) (led-recipes .nest) table scratch table′ scratch′ verdict call
       (omega (arith, computed .nest-two-positions)) (omega (arith, computed .nest-two-positions)) nest-of-two in
       record {
         accepted = is;
@@ -113,5 +113,5 @@ module _ (table scratch table′ scratch′ : List ℕ) (verdict : Verdict) wher
       → 9 ≤ length scratch
       → verdict ≡ Refused NotRealisable 0
   nest-one-called call long wide =
-      call-refuses (nestCell 8 1) nestRecipe (computed .nest-one-sized) (led .nest) table scratch table′ scratch′ verdict call
+      call-refuses (nestCell 8 1) nestRecipe (computed .nest-one-sized) (led-recipes .nest) table scratch table′ scratch′ verdict call
       (omega (arith, computed .nest-one-positions)) (omega (arith, computed .nest-one-positions)) nest-of-one

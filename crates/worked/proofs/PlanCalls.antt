@@ -29,7 +29,7 @@ use Rattle.planner.specs.Call.{checkPlan, PlanCall}
 use Rattle.worked.specs.Moves.{filled, benchCell, benchRecipe, benchSizes, benchEntry, benchTable}
 use Rattle.worked.specs.Plans.{deadRecipe, endRecipe}
 use Rattle.worked.proofs.BenchPlan.{computed, bench-checked, bench-planned, entry-one, entry-last, dead-recipe, one-end}
-use Rattle.worked.proofs.LedRecipes.{led}
+use Rattle.worked.proofs.LedRecipes.{led-recipes}
 use Rattle.worked.proofs.LentLengths.{check-passes, short-refused, short-untouched, call-accepts, call-refuses}
 use Rattle.worked.proofs.OneMoveOpen.{isSole, soleAt, here, entry-at, forced}
 
@@ -91,16 +91,16 @@ module _ (table scratch table′ scratch′ : List ℕ) (verdict : Verdict) wher
     module _ (narrow : length scratch ≤ 11) where
       pub short-scratch : verdict ≡ Refused TooShort 0
       short-scratch =
-          short-refused benchCell benchRecipe (computed .sized) (led .bench) table scratch table′ scratch′ verdict call fits (omega (arith, computed .positions))
+          short-refused benchCell benchRecipe (computed .sized) (led-recipes .bench) table scratch table′ scratch′ verdict call fits (omega (arith, computed .positions))
 
       pub short-kept : (table′ ≡ table) × (scratch′ ≡ scratch)
       short-kept =
-          short-untouched benchCell benchRecipe (computed .sized) (led .bench) table scratch table′ scratch′ verdict call fits (omega (arith, computed .positions))
+          short-untouched benchCell benchRecipe (computed .sized) (led-recipes .bench) table scratch table′ scratch′ verdict call fits (omega (arith, computed .positions))
 
     -- "and 12 pass"
     module _ (wide : 12 ≤ length scratch) where
       passes : checkPlan benchCell benchRecipe (length table) (length scratch) ≡ Accepted
-      passes = check-passes benchCell benchRecipe (computed .sized) (led .bench) (length table) (length scratch) fits (omega (arith, computed .positions))
+      passes = check-passes benchCell benchRecipe (computed .sized) (led-recipes .bench) (length table) (length scratch) fits (omega (arith, computed .positions))
 
       plan : Planned benchCell benchRecipe benchSizes table table′ (call .refused)
       plan = call .planned passes
@@ -125,7 +125,7 @@ module _ (table scratch table′ scratch′ : List ℕ) (verdict : Verdict) wher
       bench-called =
           record {
             accepted =
-                call-accepts benchCell benchRecipe (computed .sized) (led .bench) table scratch table′ scratch′ verdict call fits
+                call-accepts benchCell benchRecipe (computed .sized) (led-recipes .bench) table scratch table′ scratch′ verdict call fits
                 (omega (arith, computed .positions)) (bench-planned .accepted-holds refl);
             entry-0 = move 0 50331648 (omega arith) (omega arith) (soles .glued);
             entry-22 = move 22 33554561 (omega arith) (omega arith) (soles .passed-on);
@@ -151,7 +151,7 @@ module _ (table scratch table′ scratch′ : List ℕ) (verdict : Verdict) wher
       → 12 ≤ length scratch
       → verdict ≡ Refused NotRealisable 0
   dead-called call long wide =
-      call-refuses benchCell deadRecipe (computed .dead-sized) (led .dead) table scratch table′ scratch′ verdict call
+      call-refuses benchCell deadRecipe (computed .dead-sized) (led-recipes .dead) table scratch table′ scratch′ verdict call
       (omega (arith, soles .dead-positions)) (omega (arith, soles .dead-positions)) dead-recipe
 
   -- ‡ "a recipe of one end is accepted"
@@ -161,5 +161,5 @@ module _ (table scratch table′ scratch′ : List ℕ) (verdict : Verdict) wher
       → 1 ≤ length scratch
       → verdict ≡ Accepted
   end-called call long wide =
-      call-accepts benchCell endRecipe (computed .end-sized) (led .end) table scratch table′ scratch′ verdict call
+      call-accepts benchCell endRecipe (computed .end-sized) (led-recipes .end) table scratch table′ scratch′ verdict call
       (omega (arith, soles .end-positions)) (omega (arith, soles .end-positions)) one-end

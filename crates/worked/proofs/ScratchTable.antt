@@ -12,7 +12,7 @@ use Rattle.planner.specs.Call.{checkPlan, PlanCall}
 use Rattle.install.specs.declared.Listing.{Listing}
 use Rattle.install.specs.Call.{InstallCall}
 use Rattle.worked.specs.Moves.{benchCell, benchRecipe, limitCell, limitRecipe}
-use Rattle.worked.proofs.LedRecipes.{led}
+use Rattle.worked.proofs.LedRecipes.{led-recipes}
 use Rattle.worked.proofs.LentLengths.{check-passes, check-short}
 use Rattle.worked.proofs.Limit.{limit}
 use Rattle.worked.proofs.PlanCalls.{short-kept}
@@ -43,9 +43,9 @@ scratch-table =
       of-11-bytes = short-kept;
       of-11-bytes-listing = bench-short;
       of-most-positions =
-          check-passes (limitCell 3) limitRecipe (limit .four-pass) (led .limit) 1048576 131072
+          check-passes (limitCell 3) limitRecipe (limit .four-pass) (led-recipes .limit) 1048576 131072
           (omega (arith, limit .reached)) (omega (arith, limit .reached));
       of-one-less =
-          check-short (limitCell 3) limitRecipe (limit .four-pass) (led .limit) 1048576 131071
+          check-short (limitCell 3) limitRecipe (limit .four-pass) (led-recipes .limit) 1048576 131071
           (omega (arith, limit .reached)) (omega (arith, limit .reached));
     }

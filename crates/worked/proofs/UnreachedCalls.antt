@@ -14,7 +14,7 @@ use Rattle.positions.specs.Sizes.{pointsOf}
 use Rattle.positions.specs.Rules.{checkRecords}
 use Rattle.positions.proofs.AcceptedRecords.{both-ok, records-ok}
 use Rattle.reached.specs.Reached.{Reached}
-use Rattle.reached.proofs.Chains.{unreached-refused}
+use Rattle.reached.proofs.Chains.{one-unreached}
 use Rattle.planner.specs.Call.{PlanCall}
 use Rattle.planner.proofs.PlanAnswers.{unreached-checked}
 use Rattle.planner.proofs.Demands as demands
@@ -44,7 +44,7 @@ gets-22 c r fine q low never =
       install =
           λ table scratch list table′ scratch′ list′ answer call.
           let checked =
-          unreached-checked c r (length table) (length scratch) fine (unreached-refused r (both-ok c r fine .1) q low never) in
+          unreached-checked c r (length table) (length scratch) fine (one-unreached r (both-ok c r fine .1) q low never) in
           refuses c r table scratch list table′ scratch′ list′ answer call UnreachedPoint
           (sym (plan-refused c r (length table) (length scratch) (sym checked) refl));
     }
