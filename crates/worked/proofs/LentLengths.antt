@@ -1,6 +1,6 @@
 -- What a plan call answers for lent lengths, of any cell and recipe that pass the rules before 14: a scratch that is too short gives
 -- 14, and if nothing is too short the call accepts what is realisable and refuses all else. Assumes nothing.
-use mathlib.Core.Path.{_≡_, refl, sym, _∙_}
+use mathlib.Core.Path.{_≡_, refl, sym}
 use mathlib.Core.List.{List}
 use Prim.Native.Nat.{ℕ, _+_, _/_, _<_, _≤_}
 use lib.ListN.{length}
@@ -8,8 +8,8 @@ use borrow.Author.Tests.{lt-ltb, le-ltb}
 use Rattle.refusals.specs.declared.Refusal.the-variants.{TooShort, NotRealisable}
 use Rattle.refusals.specs.declared.Verdict.{Verdict}
 use Rattle.refusals.specs.declared.Verdict.the-variants.{Accepted, Refused}
-use Rattle.refusals.proofs.Verdicts.{refused-not, noLine-broken, noLine-kept}
-use Rattle.refusals.proofs.Rules.{refuses, accepts, decides, part-accepts}
+use Rattle.refusals.proofs.Verdicts.{noLine-broken, noLine-kept}
+use Rattle.refusals.proofs.Rules.{accepts, decides, part-accepts}
 use Rattle.cell.specs.declared.Cell.{Cell}
 use Rattle.recipe.specs.declared.Recipe.{Recipe}
 use Rattle.positions.specs.Sizes.{sizesOf}
@@ -18,6 +18,7 @@ use Rattle.positions.proofs.AcceptedRecords.{records-ok, few-ok}
 use Rattle.simulation.specs.Simulation.{Realisable}
 use Rattle.reached.specs.Reached.{rule22}
 use Rattle.planner.specs.Call.{planRules, rule14Scratch, checkPlan, PlanCall}
+use Rattle.planner.proofs.PlanAnswers.{refused-kept}
 use Rattle.planner.proofs.Demands.{realisable-accepted, unrealisable-refused}
 
 -- the rules before 15, for lent lengths
@@ -49,10 +50,10 @@ module _
       short = check-short c r sized led (length table) (length scratch) long narrow
 
       pub short-refused : verdict ≡ Refused TooShort 0
-      short-refused = call .answer ∙ sym (refuses _ refl short) ∙ short
+      short-refused = refused-kept c r table scratch table′ scratch′ call short .0
 
       pub short-untouched : (table′ ≡ table) × (scratch′ ≡ scratch)
-      short-untouched = call .untouched (refused-not short)
+      short-untouched = let kept = refused-kept c r table scratch table′ scratch′ call short in (kept .1, kept .2)
 
     module _ (wide : (sizesOf c r .positions + 7) / 8 ≤ length scratch) where
       passes : checkPlan c r (length table) (length scratch) ≡ Accepted
