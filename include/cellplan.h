@@ -261,6 +261,13 @@ uint32_t cellplan_place(const uint8_t *cell, size_t cell_length,
                         const uint8_t *recipe, size_t recipe_length,
                         const uint8_t *run, size_t run_length, uint8_t part);
 
+/*
+ * The search for marks on which planning is built, for tests and benchmarks: the least place at or after
+ * the start whose byte isn't 0, or the length if there is none. Any bytes and any start will do; a start
+ * past the end gives the length.
+ */
+size_t cellplan_next_set(const uint8_t *bytes, size_t bytes_length, size_t start);
+
 #ifdef __cplusplus
 }
 #endif

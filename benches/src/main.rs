@@ -1,11 +1,12 @@
 //! Times the library through the C interface beside the independent program: the readers, the calls of
-//! a run, and the planner, this also beside the same search in plain Rust. The list of processes to install
-//! is timed beside the library's planner.
+//! a run, and the planner, this also beside the same search in plain Rust. The search for set bytes is timed
+//! beside plain Rust alone, and the list of processes to install beside the library's planner.
 //!
-//! Run with `cargo run --release --offline -p benches`, followed by `readers`, `runs`, `plans` or `installs`
-//! for these alone.
+//! Run with `cargo run --release --offline -p benches`, followed by `readers`, `runs`, `marks`, `plans` or
+//! `installs` for these alone.
 
 mod installs;
+mod marks;
 mod plain;
 mod plans;
 mod readers;
@@ -15,9 +16,10 @@ use std::env;
 use std::time::{Duration, Instant};
 
 /// The parts of the benchmark by their names.
-const PARTS: [(&str, fn()); 4] = [
+const PARTS: [(&str, fn()); 5] = [
     ("readers", readers::measure_all),
     ("runs", runs::measure_all),
+    ("marks", marks::measure_all),
     ("plans", plans::measure_all),
     ("installs", installs::measure_all),
 ];

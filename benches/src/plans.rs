@@ -5,7 +5,7 @@ use crate::{best_times_of, plain};
 use against::calls::{Calls, Independent, Library};
 use against::independent::{
     cell_bytes, cell_of_bytes, dense_pair, judge, long_ways_pair, mixed_pair, odometer_pair,
-    recipe_bytes, recipe_of_bytes, scratch_bytes, Cell, Random, Recipe, Sizes,
+    recipe_bytes, recipe_of_bytes, scratch_bytes, stations_reversed, Cell, Random, Recipe, Sizes,
 };
 use against::{CellFile, Format, RecipeFile};
 use std::hint::black_box;
@@ -121,7 +121,12 @@ pub fn measure_all() {
         ("29 lines, 14 silent moves", mixed(29, 14, 6)),
         ("64 lines, 52 silent moves", mixed(64, 52, 3)),
         ("dense", dense_pair()),
-        ("silent ways of 399 moves", long_ways_pair()),
+        ("silent ways of 399 moves", long_ways_pair(3, 5)),
+        ("silent ways of 2800 moves", long_ways_pair(4, 3)),
+        (
+            "the same, stations reversed",
+            stations_reversed(long_ways_pair(4, 3)),
+        ),
     ] {
         Case::new(name, pair, LEAST_ROUNDS).measure();
     }

@@ -11,6 +11,7 @@ ghost use Rattle.recipe.specs.Reader.{readRecipe};
 ghost use Rattle.refusals.specs.declared.Verdict.the-variants.{Accepted};
 ghost use Rattle.refusals.specs.Verdict.{refusalIn};
 ghost use Rattle.positions.specs.Rules.{checkSizes};
+ghost use Rattle.marks.specs.Bytes.{nextSet};
 ghost use Rattle.run.specs.Calls.{freshRun, nextMove, reportOf, partPlace};
 ghost use Rattle.capi.specs.Encoding.{codeOf, cellBytes, recipeBytes, cellFrom, recipeFrom, runBytes, runFrom};
 ghost use Rattle.capi.specs.Answer.{BufferAnswered, LimitsAnswered, moveCode, placeCode, Reported, Recorded, PlanAnswered, InstallAnswered};
@@ -94,6 +95,14 @@ pub extern "C" fn cellplan_line_length(file: &[u8], n: usize) -> usize
 {
     let line = tables::lines::show_line(file, n);
     line.len()
+}
+
+// The least place at or after the start whose byte is not 0, or the length: what the planner's sweeps seek by.
+#[no_mangle]
+pub extern "C" fn cellplan_next_set(bytes: &[u8], start: usize) -> usize
+    ensures { λ r. ⌜ r ≡ nextSet (now (bytes .entry)) start ⌝ }
+{
+    marks::bytes::next_set(bytes, start)
 }
 
 // The number of a verdict's refusal, 0 if it accepts.

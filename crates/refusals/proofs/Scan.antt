@@ -83,6 +83,24 @@ module _ (f : ℕ → Bool) where
       decide false e = e
       decide true e = absurd (omega (arith, first-at-most i n low e))
 
+  -- what the search finds below n is one
+  pub first-found : (n : ℕ) → firstBelow f n < n → f (firstBelow f n) ≡ true
+  unfolding firstBelow
+  first-found zero low = absurd (not-suc-le-zero low)
+  first-found (suc n) low = step (first-found n) (eqb (firstBelow f n) n) refl (f n) refl low
+    where
+      step :
+          (firstBelow f n < n → f (firstBelow f n) ≡ true)
+          → (a : Bool)
+          → eqb (firstBelow f n) n ≡ a
+          → (b : Bool)
+          → f n ≡ b
+          → cond a (cond b n (suc n)) (firstBelow f n) < suc n
+          → f (cond a (cond b n (suc n)) (firstBelow f n)) ≡ true
+      step before true same true here less = here
+      step before true same false here less = absurd (omega arith)
+      step before false other b here less = before (omega (arith, first-le n, eqb-false (firstBelow f n) n other))
+
   -- the search passes over numbers that are none
   pub first-past : (n : ℕ) → ((i : ℕ) → i < n → f i ≡ false) → firstBelow f n ≡ n
   unfolding firstBelow

@@ -1,7 +1,8 @@
 -- The worked examples marked ‡: the files, the moves, the limit, a list of calls and the plan, and the one table of all of them.
 -- Then those of request 1, with a table of their own: records and files with limits, plans of cells with limits, stored tables. And
 -- those of request 2: cells that lack an operation line, the lines that mend them, and the answers of install calls. And those of
--- request 3: scratches of so many bytes. And those of request 4: points that nothing leads to.
+-- request 3: scratches of so many bytes. And those of request 4: points that nothing leads to. And those of request 5: where the
+-- search for marks ends.
 mod Certificates
 mod LedRecipes
 mod LentLengths
@@ -31,3 +32,4 @@ mod UnreachedRecipes
 mod UnreachedCalls
 mod StoredRun
 pub mod UnreachedTable
+pub mod SearchTable

@@ -1,6 +1,6 @@
 //! The library's C interface as safe functions: the file formats with the library's reader and the
 //! independent one under the same signature, so that one test serves both; and so too the calls on
-//! records and runs.
+//! records and runs; and the search for set bytes.
 
 pub mod calls;
 pub mod damage;
@@ -51,6 +51,7 @@ mod c {
         ) -> u64;
         pub fn cellplan_line_start(file: *const u8, file_length: usize, n: usize) -> usize;
         pub fn cellplan_line_length(file: *const u8, file_length: usize, n: usize) -> usize;
+        pub fn cellplan_next_set(bytes: *const u8, bytes_length: usize, start: usize) -> usize;
         pub fn cellplan_check(
             cell: *const u8,
             cell_length: usize,
@@ -161,6 +162,12 @@ pub fn line_start(file: &[u8], n: usize) -> usize {
 pub fn line_length(file: &[u8], n: usize) -> usize {
     // SAFETY: the pointer and the length are those of a slice that outlives the call.
     unsafe { c::cellplan_line_length(file.as_ptr(), file.len(), n) }
+}
+
+/// Where the library says that the first byte from `start` on is that isn't 0.
+pub fn next_set(bytes: &[u8], start: usize) -> usize {
+    // SAFETY: the pointer and the length are those of a slice that outlives the call.
+    unsafe { c::cellplan_next_set(bytes.as_ptr(), bytes.len(), start) }
 }
 
 /// A refusal as the C interface returns it.

@@ -7,7 +7,9 @@ use crate::pairs::Pair;
 use crate::random::Random;
 use crate::rounds::{accepted, show_records};
 use crate::{scratches, TOO_SHORT};
-use independent::{cell_of_bytes, check_to_plan, entry_of, judge, recipe_of_bytes, scratch_bytes};
+use independent::{
+    cell_of_bytes, check_to_plan, entry_of, judge, plan, recipe_of_bytes, scratch_bytes,
+};
 use std::fmt::{Display, Formatter, Result};
 
 /// What lies on either side of what is lent, and doesn't belong to it.
@@ -120,6 +122,20 @@ impl Handed {
             let owed = self.judged(&planned.table);
             assert_eq!(planned.refusal, u32::from(owed), "the refusal\n{self}");
         }
+        planned
+    }
+
+    /// Makes the call, and wants the independent planner's answer and its table, entry for entry: the
+    /// smallest entries that begin a shortest way.
+    pub fn plan_alike(&self, random: &mut Random) -> Planned {
+        let planned = self.plan_with(Lent::bytes(self.scratch, random), random);
+        let mut table = planned.table.clone();
+        let (cell, recipe) = (cell_of_bytes(&self.cell), recipe_of_bytes(&self.recipe));
+        let refusal = plan(&cell, &recipe, &mut table, self.scratch);
+        assert_eq!(planned.refusal, u32::from(refusal), "the refusal\n{self}");
+        let mut entries = planned.table.iter().zip(&table);
+        let other = entries.position(|(entry, owed)| entry != owed);
+        assert_eq!(other, None, "a position with another entry\n{self}");
         planned
     }
 

@@ -465,7 +465,7 @@ fn as_many_positions_as_there_may_be() {
         (dense_pair(), 0),
         (mixed(29, 14, 6), 1),
         (mixed(64, 52, 3), 7),
-        (long_ways_pair(), 0),
+        (long_ways_pair(3, 5), 0),
     ] {
         let mut handed = handed(&pair, more);
         assert_eq!((handed.entries - more) as u64, MOST_POSITIONS);

@@ -541,7 +541,7 @@ fn dense_mixed_and_long() {
         dense_pair(),
         mixed(29, 14, 6),
         mixed(64, 52, 3),
-        long_ways_pair(),
+        long_ways_pair(3, 5),
     ] {
         plan_and_follow(pair, lists, &mut random, &mut seen);
     }

@@ -4,10 +4,14 @@
 //! point 0, the others have none.
 
 mod cell_lines;
+mod chains;
 mod great;
 mod walk;
 
-pub use great::{dense_pair, gap_pair, long_ways_pair, mixed_pair, odometer_pair};
+pub use chains::chain_pair;
+pub use great::{
+    dense_pair, gap_pair, long_ways_pair, mixed_pair, odometer_pair, stations_reversed,
+};
 
 use crate::cell::{cell_bytes, cell_of_bytes, Cell, NO_LIMIT};
 use crate::random::Random;

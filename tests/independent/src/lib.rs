@@ -1,8 +1,8 @@
-//! An independent program for the cell, recipe and limits files, the planner, the list of processes to
-//! install, the run over a stored table, the book that the run is held against and the program `walk`,
-//! written from their description alone; with a judge of planned tables and a generator of cells and
-//! recipes. The tests compare the proved library and program with it, and the benchmark measures against
-//! it.
+//! An independent program for the cell, recipe and limits files, the planner, the search for set bytes, the
+//! list of processes to install, the run over a stored table, the book that the run is held against and the
+//! program `walk`, written from their description alone; with a judge of planned tables and a generator of
+//! cells and recipes. The tests compare the proved library and program with it, and the benchmark measures
+//! against it.
 
 mod book;
 mod cell;
@@ -13,6 +13,7 @@ mod generate;
 mod install;
 mod judge;
 mod limits;
+mod next_set;
 mod plan;
 mod random;
 mod recipe;
@@ -30,14 +31,16 @@ pub use cell::{
 };
 pub use entry::{entry_of, is_open, kind_of, letters_of, CARRY, INTERNAL, STAY, TRANSFER};
 pub use generate::{
-    dense_pair, gap_pair, likely_pair, limited_pair, long_ways_pair, mixed_pair, odometer_pair,
+    chain_pair, dense_pair, gap_pair, likely_pair, limited_pair, long_ways_pair, mixed_pair,
+    odometer_pair, stations_reversed,
 };
 pub use install::{
     candidates, install, missing_processes, realisable_by_joint_steps, realisable_by_single_moves,
     Install, Process,
 };
-pub use judge::{judge, Fault, FEW_JOINT_CHOICES};
+pub use judge::{judge, longest_way, Fault, FEW_JOINT_CHOICES};
 pub use limits::{is_overfull, read_limits, LIMITS_NAMES};
+pub use next_set::next_set;
 pub use plan::{check_to_plan, plan, stored_table};
 pub use random::Random;
 pub use recipe::{

@@ -97,14 +97,26 @@ fn mixed_lines(lines: usize, silent_moves: usize, random: &mut Random) -> Vec<Ce
     (0..lines).map(|_| line()).collect()
 }
 
-/// As many positions as there may be, and silent ways of hundreds of moves: three stations of eight
-/// states count, the first by internal work, the others by the transfers with which the station before
-/// starts anew. What is to be done is done in the last one's last state.
-pub fn long_ways_pair() -> (Cell, Recipe) {
-    let mut lines = counting_lines(3, INTERNAL);
-    lines.extend([0, 1].map(|op| [2, 7, OPERATION, op, 0]));
-    let points = [[0, DO, 0, 0, 16, 1, 0], [1, DO, 1, 16, 0, 0, 0]];
+/// Long silent ways, of 399 moves with three stations and of 2,800 with four: stations of eight states
+/// count, the first by internal work, the others by the transfers with which the station before starts
+/// anew. What is to be done, with the last of so many parts, is done in the last station's last state.
+pub fn long_ways_pair(stations: u8, parts: u8) -> (Cell, Recipe) {
+    let mut lines = counting_lines(stations, INTERNAL);
+    lines.extend([0, 1].map(|op| [stations - 1, 7, OPERATION, op, 0]));
+    let part = 1 << (parts - 1);
+    let points = [[0, DO, 0, 0, part, 1, 0], [1, DO, 1, part, 0, 0, 0]];
     (cell_of_lines(&lines), recipe_of_lines(&points))
+}
+
+/// The pair with its stations in reverse order. The one that moves most counts most in a position then, and
+/// what silent moves lead to lies far from where they begin.
+pub fn stations_reversed((mut cell, recipe): (Cell, Recipe)) -> (Cell, Recipe) {
+    let stations = cell.resources();
+    for resource in &mut cell.resource[..usize::from(cell.count)] {
+        *resource = stations as u8 - 1 - *resource;
+    }
+    cell.limits[..stations].reverse();
+    (cell, recipe)
 }
 
 /// Stations of eight states, five at most, that count the rounds of a loop, the first by its operation
@@ -135,6 +147,7 @@ mod tests {
     use crate::entry::{kind_of, CARRY, INTERNAL, STAY, TRANSFER};
     use crate::fixtures::planned;
     use crate::install::missing_processes;
+    use crate::judge::longest_way;
 
     fn sizes_of((cell, recipe): &(Cell, Recipe)) -> Sizes {
         assert_eq!(check(cell, recipe), 0);
@@ -176,16 +189,13 @@ mod tests {
         assert_eq!(missing, [[0, 0, 0, 2]]);
     }
 
-    #[test]
-    fn a_long_way_takes_hundreds_of_silent_moves() {
-        let (cell, recipe) = long_ways_pair();
-        assert_eq!(sizes_of(&long_ways_pair()).positions, MOST_POSITIONS);
-        let (refusal, table) = planned(&cell, &recipe);
+    /// Follows the plan of a loop of two points, in which so many silent moves come before each carry.
+    fn follow_long_ways((cell, recipe): &(Cell, Recipe), most: u64) {
+        let (refusal, table) = planned(cell, recipe);
         assert_eq!(refusal, 0);
-        let mut book = Book::new(&cell, &recipe, &table);
-        // Once up takes the last station 1 + 7 × 8 moves, and it goes up seven times.
+        let mut book = Book::new(cell, recipe, &table);
         for point in [0, 1, 0] {
-            for silent_moves in 1..=399 {
+            for silent_moves in 1..=most {
                 assert_eq!(book.report(0).refusal, 0);
                 assert_eq!(
                     (book.silent_moves(), book.run().point),
@@ -195,6 +205,36 @@ mod tests {
             assert_eq!(book.report(0).refusal, 0);
             assert_eq!(book.silent_moves(), 0);
         }
+        assert_eq!(longest_way(cell, recipe, &table), Ok(most));
+    }
+
+    #[test]
+    fn a_long_way_takes_hundreds_or_thousands_of_silent_moves() {
+        // Once up takes the last station 1 + 7 × 8 moves, and it goes up seven times.
+        let three = long_ways_pair(3, 5);
+        assert_eq!(sizes_of(&three).positions, MOST_POSITIONS);
+        follow_long_ways(&three, 399);
+        // With one more in front, it takes 1 + 7 × 57 moves.
+        let four = long_ways_pair(4, 3);
+        let backwards = stations_reversed(four.clone());
+        for pair in [&four, &backwards] {
+            let sizes = sizes_of(pair);
+            assert_eq!((sizes.parts, sizes.points, pair.0.count), (3, 2, 33));
+            assert_eq!((sizes.resources, &sizes.states[..4]), (4, &[8; 4][..]));
+            assert_eq!(sizes.positions, 1_024_000);
+            follow_long_ways(pair, 2_800);
+        }
+        assert_ne!(backwards, four);
+        assert_eq!(stations_reversed(backwards), four);
+    }
+
+    #[test]
+    fn stations_in_reverse_order_keep_their_limits() {
+        let (mut cell, recipe) = long_ways_pair(3, 1);
+        cell.limits[..3].copy_from_slice(&[1, 2, 3]);
+        let (backwards, _) = stations_reversed((cell, recipe));
+        assert_eq!(backwards.limits, [3, 2, 1, 8, 8, 8]);
+        assert_eq!(backwards.line(0), [2, 0, 0, 0, 1]);
     }
 
     #[test]
