@@ -12,8 +12,8 @@ use independent::{
 const CHAINS: usize = 600;
 const MOST_POSITIONS: u64 = 100_000;
 
-/// Up to so many configurations the library looks for marks among all of them; of more, only where the layer
-/// before may have left some.
+/// Of fewer configurations than this the library looks for marks among all; of more, only where the layer
+/// before may have left some, unless that has many rows.
 const FEW_CONFIGURATIONS: u64 = 4_096;
 
 /// A way of more silent moves than this is long: as many layers come before its first position's.
@@ -42,7 +42,7 @@ impl Seen {
         let refused = usize::from(planned.refusal == 15);
         self.planned[refused] += 1;
         self.longest = self.longest.max(longest);
-        if sizes.joint_states * sizes.placings <= FEW_CONFIGURATIONS {
+        if sizes.joint_states * sizes.placings < FEW_CONFIGURATIONS {
             self.few[refused] += 1;
         } else {
             self.many[refused] += 1;
