@@ -19,6 +19,12 @@
  * the line count; in a record handed in these count for nothing. The reader of cells leaves 8 in each
  * limit.
  *
+ * The act of a cell line is 0 internal, 1 operation, 2 in, 3 out or 4 reject gate. A test is carried by an
+ * act 1 line. If its resource has an act 4 line with the same from and arg, outcome 0 of the test ends in
+ * that line's `to` and outcome 1 in the act 1 line's; else both end in the act 1 line's. Act 1 lines with
+ * the same from and arg share the act 4 line. Nothing else takes an act 4 line, and a do follows act 1
+ * lines alone. An act 4 line counts as a line of its resource, also for its number of states.
+ *
  * A run has CELLPLAN_RUN_BYTES bytes: the point, the states of the resources 0 to 5, the places of the
  * parts 0 to 7. A place is 0 outside the cell and k + 1 at resource k. Resources and parts that aren't
  * there have 0.
@@ -36,8 +42,12 @@
  * the letters being numbers of cell lines from 0, and 0 where they are unused:
  *     kind 1  the internal line a;
  *     kind 2  the out line a together with the in line b;
- *     kind 3  carry: a to d are the cell lines for the point's recipe lines in order;
+ *     kind 3  carry: of a do, a to d are the cell lines for the point's recipe lines in order; of a test,
+ *             a is the act 1 line, and b the line that outcome 0 follows: the act 4 line of a's resource,
+ *             from and arg, or a itself if there is none;
  *     kind 4  the run is at an end; no letter is used.
+ * A table that was made before there was an act 4 has b = 0 in the entries of tests. For a recipe with
+ * tests it must be planned again: such an entry gets 18, unless a is line 0 and has no act 4 line.
  *
  * A reader's result is 0 if the file is accepted, else
  *     refusal + 256 * line.
@@ -56,6 +66,8 @@
  *      6  Cell: for an in or out line, no line of another resource has the other act on that port.
  *     20  Limits: a resource isn't below R, or isn't greater than that of the line before. In a cell
  *         record: a limit at or above R isn't 8. (A record's limit names no line.)
+ *     23  Cell: an act 4 line has no act 1 line of the same resource, from and arg, or an earlier act 4
+ *         line has these three. (A cell file has no limits, so that there it comes after 6.)
  *      7  Recipe: the first point isn't 0, or a point is neither its predecessor's nor one more.
  *      8  Recipe: a repeated point isn't kind 1 on both lines, differs in `then`, or comes a fifth
  *         time.
@@ -167,9 +179,9 @@ size_t cellplan_line_start(const uint8_t *file, size_t file_length, size_t n);
 size_t cellplan_line_length(const uint8_t *file, size_t file_length, size_t n);
 
 /*
- * Checks a cell record and a recipe record: the result is the first refusal of the rules 3 to 13, 20 in
- * its place among them and 22 not, or 0. Which line breaks a rule is not said; a reader says that of the
- * file.
+ * Checks a cell record and a recipe record: the result is the first refusal of the rules 3 to 13, 20 and
+ * 23 in their places among them and 22 not, or 0. Which line breaks a rule is not said; a reader says that
+ * of the file.
  */
 uint32_t cellplan_check(const uint8_t *cell, size_t cell_length,
                         const uint8_t *recipe, size_t recipe_length);
@@ -192,7 +204,9 @@ uint32_t cellplan_plan(const uint8_t *cell, size_t cell_length,
  * Lists the processes that the cell lacks: every operation line (act 1) that isn't in the cell and that
  * alone, added behind the cell's lines, makes the cell able to build the recipe within its limits. Such a
  * line has a resource of the cell, states that this resource has already, and the operation of a do or a
- * test of the recipe. Nothing is listed if the cell can build the recipe as it is. The result is
+ * test of the recipe. If the cell has an act 4 line of that resource, from and operation, a test by the
+ * new line has it as its gate; an act 4 line is itself no process, whatever its numbers. Nothing is listed
+ * if the cell can build the recipe as it is. The result is
  *     refusal * 2^32 + count,
  * with count 0 if refused. The last refusals are tried in the order 22, 13, 14, 21; 21 is given also if
  * nothing is lacking, and 15 never. Accepted, the list gets, for each process,
@@ -227,9 +241,9 @@ uint64_t cellplan_next_move(const uint8_t *cell, size_t cell_length,
 
 /*
  * Makes the move at the run's position and puts the next run in the run's place. A carried do goes to
- * its point's `then`; a test goes to `then` on outcome 1 and to `else` on outcome 0; other moves ignore
- * the outcome. The result is 0, or the refusal, and then the run stays. The refusals from 13 on are
- * tried in the order 13, 14, 16, 17, 18, 19.
+ * its point's `then`; a test goes to `then` on outcome 1, its resource following line a, and to `else` on
+ * outcome 0, its resource following line b; other moves ignore the outcome. The result is 0, or the
+ * refusal, and then the run stays. The refusals from 13 on are tried in the order 13, 14, 16, 17, 18, 19.
  */
 uint32_t cellplan_report(const uint8_t *cell, size_t cell_length,
                          const uint8_t *recipe, size_t recipe_length,

@@ -5,7 +5,8 @@ use crate::{best_times_of, plain};
 use against::calls::{Calls, Independent, Library};
 use against::independent::{
     cell_bytes, cell_of_bytes, dense_pair, judge, long_ways_pair, mixed_pair, odometer_pair,
-    recipe_bytes, recipe_of_bytes, scratch_bytes, stations_reversed, Cell, Random, Recipe, Sizes,
+    recipe_bytes, recipe_of_bytes, scratch_bytes, stations_reversed, with_gates, Cell, Random,
+    Recipe, Sizes,
 };
 use against::{CellFile, Format, RecipeFile};
 use std::hint::black_box;
@@ -121,6 +122,9 @@ pub fn measure_all() {
         ("29 lines, 14 silent moves", mixed(29, 14, 6)),
         ("64 lines, 52 silent moves", mixed(64, 52, 3)),
         ("dense", dense_pair()),
+        // The same with a gate for each of the twelve operations by which a test may be carried, so that every
+        // test leaves its station in another state on outcome 0.
+        ("dense, gates at its tests", with_gates(dense_pair())),
         ("silent ways of 399 moves", long_ways_pair(3, 5)),
         ("silent ways of 2800 moves", long_ways_pair(4, 3)),
         (
@@ -185,6 +189,16 @@ mod tests {
             let limited = planned_positions(with_limits(pair.clone(), limits));
             assert!(4 * limited < 3 * planned_positions(pair), "{name}");
         }
+    }
+
+    #[test]
+    fn gates_part_the_outcomes_of_every_dense_test() {
+        let (cell, recipe) = with_gates(dense_pair());
+        let operations = (0..usize::from(cell.count)).filter(|&n| cell.act[n] == 1);
+        let parted = operations.filter(|&n| cell.to[n] != cell.to[cell.line_on_failure(n)]);
+        assert_eq!((cell.count, parted.count()), (60, 12));
+        let planned = [dense_pair(), (cell, recipe)].map(planned_positions);
+        assert_eq!(planned[0], planned[1]);
     }
 
     #[test]

@@ -4,7 +4,7 @@
 use crate::best_times;
 use against::calls::{Calls, Independent, Library};
 use against::independent::{entry_of, run_bytes, run_of_bytes, Run, CARRY, INTERNAL, TRANSFER};
-use against::pairs::full_pair;
+use against::pairs::{full_pair, Pair, NO_LIMITS};
 use against::rounds::accepted;
 use against::{CellFile, Format, RecipeFile};
 use std::hint::black_box;
@@ -112,6 +112,7 @@ pub fn measure_all() {
         case.measure();
     }
     limited_case().measure();
+    gated_case().measure();
 }
 
 /// The bench example at the positions 0, 22 and 26.
@@ -124,7 +125,7 @@ fn bench_cases() -> [Case; 3] {
     [
         ("bench example, do", 0, 50_331_648),
         ("bench example, transfer", 22, 33_554_561),
-        ("bench example, test", 26, 50_331_651),
+        ("bench example, test", 26, 50_331_843),
     ]
     .map(|(name, position, entry)| {
         let (point, configuration) = sizes.at(position);
@@ -183,5 +184,26 @@ fn limited_case() -> Case {
         &pair.recipe_bytes(),
         FULL_RUN,
         entry_of(CARRY, FULL_CARRY),
+    )
+}
+
+/// Four stations of eight states with an operation from each of them and a gate for each operation, and a test
+/// by the last operation, whose gate is the last line.
+fn gated_case() -> Case {
+    let line = |n: u32| {
+        let (k, from, act) = (n % 4, n / 4 % 8, if n < 32 { 1 } else { 4 });
+        vec![k, from, act, 2, (from + act) % 8]
+    };
+    let pair = Pair {
+        cell: (0..64).map(line).collect(),
+        limits: NO_LIMITS,
+        recipe: vec![vec![0, 2, 2, 1, 0, 1, 1], vec![1, 0, 0, 0, 0, 0, 0]],
+    };
+    Case::new(
+        "64-line cell, half of it gates, test",
+        &pair.cell_bytes(),
+        &pair.recipe_bytes(),
+        [0, 0, 0, 0, 7, 0, 0, 4, 0, 0, 0, 0, 0, 0, 0],
+        entry_of(CARRY, [31, 63, 0, 0]),
     )
 }

@@ -16,6 +16,10 @@
 /* No file that is accepted is longer, and the start of a longer one is refused too. */
 #define FILE_BYTES 8192
 
+/* The fields of a recipe line, and the kind of a test. */
+enum { POINT, KIND, OP, TAKES, GIVES, THEN, ELSE, RECIPE_FIELDS };
+#define TEST 2
+
 typedef uint64_t reader(const uint8_t *file, size_t file_length,
                         uint8_t *record, size_t record_length);
 
@@ -76,20 +80,25 @@ static void read_table(const char *path, struct plan *plan)
     fclose(stream);
 }
 
-/* How many recipe lines a point has. */
-static unsigned lines_at(const uint8_t *recipe, uint8_t point)
+/* Prints the lines that carry a point, and behind a test's line the one that outcome 0 follows, if another. */
+static void print_carry(const uint8_t *recipe, uint8_t point, uint32_t entry)
 {
-    unsigned n, lines = 0;
+    unsigned n, letter = 0;
 
-    for (n = 0; n < recipe[0]; n++)
-        lines += recipe[1 + 7 * n] == point;
-    return lines;
+    for (n = 0; n < recipe[0]; n++) {
+        const uint8_t *line = recipe + 1 + RECIPE_FIELDS * n;
+
+        if (line[POINT] != point)
+            continue;
+        printf(" line %u", CELLPLAN_LETTER(entry, letter));
+        if (line[KIND] == TEST && CELLPLAN_LETTER(entry, 1) != CELLPLAN_LETTER(entry, 0))
+            printf(", on outcome 0 line %u", CELLPLAN_LETTER(entry, 1));
+        letter++;
+    }
 }
 
 static void print_move(const struct plan *plan, const uint8_t *run, uint32_t entry)
 {
-    unsigned n;
-
     printf("point %u, entry %lu: ", run[0], (unsigned long)entry);
     switch (CELLPLAN_KIND(entry)) {
     case 1:
@@ -100,8 +109,7 @@ static void print_move(const struct plan *plan, const uint8_t *run, uint32_t ent
         break;
     case 3:
         printf("carry by");
-        for (n = 0; n < lines_at(plan->recipe, run[0]); n++)
-            printf(" line %u", CELLPLAN_LETTER(entry, n));
+        print_carry(plan->recipe, run[0], entry);
         break;
     default:
         printf("end");

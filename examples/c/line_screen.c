@@ -1,6 +1,7 @@
 /*
  * A line screen: reads a cell file and a recipe file, plans, and follows the plan from a fresh run. Each
- * move is printed in words, and after each report where the parts are then.
+ * move is printed in words, and after each report where the parts are then; after a test also where its
+ * outcome has led the station.
  *
  *     line_screen [-l LIMITS] CELL RECIPE [OUTCOME ..]
  *
@@ -169,6 +170,20 @@ static uint8_t outcome_of(const char *text)
     return number < 256 ? (uint8_t)number : 255;
 }
 
+/*
+ * Prints where a test has led its station. Outcome 1 follows the line that carries the test, and so does
+ * outcome 0, unless the station has a reject gate for it: then the entry's second letter is another line.
+ */
+static void print_outcome(const struct screen *screen, uint32_t entry, uint8_t outcome)
+{
+    unsigned carrying = CELLPLAN_LETTER(entry, 0);
+    unsigned followed = outcome == 0 ? CELLPLAN_LETTER(entry, 1) : carrying;
+    const uint8_t *line = cell_line(screen, followed);
+
+    printf("    outcome %u: station %u goes to state %u%s\n", outcome, line[RESOURCE], line[TO],
+           followed != carrying ? " by its reject gate" : "");
+}
+
 /* Reports that the move was made, which advances the screen's own record. */
 static void report(struct screen *screen, uint32_t entry, uint8_t outcome)
 {
@@ -182,7 +197,7 @@ static void report(struct screen *screen, uint32_t entry, uint8_t outcome)
     if (refusal != 0)
         refuse("report", refusal);
     if (is_test)
-        printf("    outcome %u\n", outcome);
+        print_outcome(screen, entry, outcome);
     print_parts(screen);
 }
 

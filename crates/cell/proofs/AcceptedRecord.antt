@@ -18,13 +18,13 @@ use Rattle.cell.specs.declared.Cell.{Cell}
 use Rattle.cell.specs.Reader.{cellOf, judgeCell, readCell}
 use Rattle.cell.specs.Inner.{reading}
 use Rattle.cell.specs.Rules.{inRange, leavesRange, rule4, limitInRange, limitLeavesRange, rule4Limits, resourceCount}
-use Rattle.cell.specs.Rules.{rule5, rule6, limitsAbsent, rule20, cellRules, checkCell}
+use Rattle.cell.specs.Rules.{rule5, rule6, limitsAbsent, rule20, rule23, cellRules, checkCell}
 
 -- what rule 4 leaves of the numbers of line n
 pub record LineInRange (c : Cell) (n : ℕ) : Type 0 where
   pub resource : getD (c .resource) n 0 ≤ 5
   pub from : getD (c .from) n 0 ≤ 7
-  pub act : getD (c .act) n 0 ≤ 3
+  pub act : getD (c .act) n 0 ≤ 4
   pub arg : getD (c .arg) n 0 ≤ 63
   pub to : getD (c .to) n 0 ≤ 7
 
@@ -62,6 +62,7 @@ pub record EachAccepts (c : Cell) : Type 0 where
   pub fourth : rule4 c ≡ Accepted
   pub fifth : rule5 c ≡ Accepted
   pub sixth : rule6 c ≡ Accepted
+  pub twenty-third : rule23 c ≡ Accepted
   pub limit-least : (k : ℕ) → k < 6 → 1 ≤ getD (c .limits) k 0
   pub limit-most : (k : ℕ) → k < 6 → getD (c .limits) k 0 ≤ 8
   pub limit-absent : (k : ℕ) → resourceCount c ≤ k → k < 6 → getD (c .limits) k 0 ≡ 8
@@ -74,9 +75,10 @@ each-accepts c e =
       fourth = search (first-accepts, rest-accepts);
       fifth = search (first-accepts, rest-accepts);
       sixth = search (first-accepts, rest-accepts);
+      twenty-third = search (first-accepts, rest-accepts) depth 7;
       limit-least = λ k low. limit-in-range c k low (search (first-accepts, rest-accepts)) .0;
       limit-most = λ k low. limit-in-range c k low (search (first-accepts, rest-accepts)) .1;
-      limit-absent = λ k high low. limit-eight c k low (search (first-accepts, rest-accepts)) high;
+      limit-absent = λ k high low. limit-eight c k low (search (first-accepts, rest-accepts) depth 7) high;
     }
 
 -- a reader's record has at most 64 lines, refused or not

@@ -12,7 +12,7 @@ use lib.Seq.{getD-set-same, getD-set-other}
 use lib.Dec.{eqb}
 use borrow.Author.Tests.{le-leb, le-ltb, ne-eqb, not-false}
 use Rattle.refusals.specs.declared.Verdict.the-variants.{Accepted}
-use Rattle.refusals.specs.declared.Refusal.the-variants.{LineCount, Range, ResourceGap, NoPartner, LimitResource}
+use Rattle.refusals.specs.declared.Refusal.the-variants.{LineCount, Range, ResourceGap, NoPartner, LimitResource, RejectLine}
 use Rattle.refusals.specs.Search.{anyBelow, isOf}
 use Rattle.refusals.specs.Verdict.{firstRefusal, noLine, rule3}
 use Rattle.refusals.proofs.Scan.{greatest-within, greatest-longer}
@@ -22,10 +22,12 @@ use Rattle.refusals.proofs.Rules.{first-accepts, rest-accepts}
 use Rattle.cell.specs.declared.Cell.{Cell}
 use Rattle.cell.specs.declared.OperationLine.{OperationLine}
 use Rattle.cell.specs.Rules.{inRange, leavesRange, rule4, rule4Limits, greatestResource, resourceCount, hasNoLine, gap, rule5}
-use Rattle.cell.specs.Rules.{partner, unpaired, rule6, limitsAbsent, rule20, cellRules, checkCell}
+use Rattle.cell.specs.Rules.{partner, unpaired, rule6, alike, limitsAbsent, rule20, stray, rule23, cellRules, checkCell}
 use Rattle.cell.specs.Longer.{withLine, withLines}
 use Rattle.cell.proofs.AcceptedRecord.{line-in-range, each-accepts}
 use Rattle.cell.proofs.Partners.{neither}
+use Rattle.cell.proofs.RejectGates.{alikeIn}
+use Rattle.cell.proofs.Strays.{no-gate}
 
 -- a cell record as it stands in memory: every column has 64 lines
 pub record Columns (c : Cell) : Type 0 where
@@ -179,6 +181,11 @@ lines-act c (l ∷ ls) C few m past low =
     (λ (lt : c .count < m). lines-act (withLine c l) ls (columns-longer c l C) (omega arith) m lt low)
     (eq-or-lt-of-le past)
 
+-- lines that have the numbers of others are alike where these are
+alike-kept : (c d : Cell) (wanted i k : ℕ) → SameLine c i d i → SameLine c k d k → alikeIn c wanted i k ≡ alikeIn d wanted i k
+unfolding alike
+alike-kept c d wanted i k I K = rw (I .resource, I .from, I .arg, K .resource, K .from, K .act, K .arg)
+
 -- of a line more whose resource is one of the cell's
 module _ (c : Cell) (l : OperationLine) (C : Columns c) (few : c .count < 64) (own : l .resource < resourceCount c) where
   -- the greatest resource number is the cell's
@@ -309,6 +316,41 @@ module _ (c : Cell) (l : OperationLine) (C : Columns c) (few : c .count < 64) (o
         ap (λ (R : ℕ). noLine LimitResource (anyBelow (limitsAbsent (c .limits) R) 6)) longer-resources
         ∙ search (first-accepts, rest-accepts)
 
+    -- an act 4 line that had its act 1 line has it still, the lines before it are the same, and the added one is of act 1
+    twenty-third : rule23 (withLine c l) ≡ Accepted
+    unfolding rule23 stray withLine
+    twenty-third =
+        none-broken RejectLine (strays d) (d .count) (by-line (λ n. strays d n ≡ false) kept added)
+      where
+        d : Cell
+        d = withLine c l
+
+        strays : Cell → ℕ → Bool
+        strays x = stray (x .resource) (x .from) (x .act) (x .arg) (x .count)
+
+        still :
+            (a b b′ e e′ : Bool)
+            → (b ≡ true → b′ ≡ true)
+            → (e ≡ false → e′ ≡ false)
+            → (a && (not b || e)) ≡ false
+            → (a && (not b′ || e′)) ≡ false
+        still true true b′ true e′ more none f = absurd (true≢false f)
+        still true true b′ false e′ more none f = rw (more refl, none refl)
+        still true false b′ e e′ more none f = absurd (true≢false f)
+        still false b b′ e e′ more none f = refl
+
+        kept : (i : ℕ) → i < c .count → SameLine c i d i → strays d i ≡ false
+        kept i low I =
+            rw (I .act)
+            (still (eqb (getD (c .act) i 0) 4) (anyBelow (alikeIn c 1 i) (c .count)) (anyBelow (alikeIn d 1 i) (d .count))
+            (anyBelow (alikeIn c 4 i) i) (anyBelow (alikeIn d 4 i) i)
+            (any-longer (alikeIn c 1 i) (alikeIn d 1 i) (c .count) (λ k less. alike-kept c d 1 i k I (line-kept c l k less)))
+            (λ none. any-none (alikeIn d 4 i) i (λ k less. sym (alike-kept c d 4 i k I (line-kept c l k (omega arith))) ∙ any-not (alikeIn c 4 i) i k none less))
+            (none-breaks _ _ _ (each-accepts c accepted .twenty-third) i low))
+
+        added : IsLine d (c .count) l → strays d (c .count) ≡ false
+        added L = no-gate (d .resource) (d .from) (d .act) (d .arg) (d .count) (c .count) (λ (e : getD (d .act) (c .count) 0 ≡ 4). omega (arith, L .act))
+
 -- an operation line more, of a resource of the cell, breaks no rule
 pub longer-accepted :
     (c : Cell) (l : OperationLine)
@@ -329,4 +371,5 @@ longer-accepted c l accepted C few own from operation to =
       fifth c l C few own accepted,
       sixth c l C few own accepted,
       twentieth c l C few own accepted,
+      twenty-third c l C few own accepted,
     )

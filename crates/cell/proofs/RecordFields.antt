@@ -33,7 +33,7 @@ module _
     (resource from act arg to : Column)
     (resources : Ranged store count 0 0 5 resource)
     (froms : Ranged store (resource .lines) 1 0 7 from)
-    (acts : Ranged store (from .lines) 2 0 3 act)
+    (acts : Ranged store (from .lines) 2 0 4 act)
     (args : Ranged store (act .lines) 3 0 63 arg)
     (tos : Ranged store (arg .lines) 4 0 7 to)
   where
@@ -43,8 +43,8 @@ module _
     R1 : OfFile f 1 0 7 (resource .lines) from
     R1 = of-file f store K (resource .lines) 1 0 7 from (R0 .fewer) (omega (arith, R0 .fewer)) (omega arith) froms
 
-    R2 : OfFile f 2 0 3 (from .lines) act
-    R2 = of-file f store K (from .lines) 2 0 3 act (omega (arith, R0 .fewer, R1 .fewer)) (omega (arith, R0 .fewer, R1 .fewer)) (omega arith) acts
+    R2 : OfFile f 2 0 4 (from .lines) act
+    R2 = of-file f store K (from .lines) 2 0 4 act (omega (arith, R0 .fewer, R1 .fewer)) (omega (arith, R0 .fewer, R1 .fewer)) (omega arith) acts
 
     R3 : OfFile f 3 0 63 (act .lines) arg
     R3 =
@@ -64,22 +64,22 @@ module _
         ∙ ap (firstBelow (λ i. not (fits f 4 7 i))) (R3 .lines-are)
         ∙ first-both (fits f 3 63) (fits f 4 7) (act .lines)
         ∙ ap (firstBelow (λ i. not (fits f 3 63 i && fits f 4 7 i))) (R2 .lines-are)
-        ∙ first-both (fits f 2 3) (λ i. fits f 3 63 i && fits f 4 7 i) (from .lines)
-        ∙ ap (firstBelow (λ i. not (fits f 2 3 i && (fits f 3 63 i && fits f 4 7 i)))) (R1 .lines-are)
-        ∙ first-both (fits f 1 7) (λ i. fits f 2 3 i && (fits f 3 63 i && fits f 4 7 i)) (resource .lines)
-        ∙ ap (firstBelow (λ i. not (fits f 1 7 i && (fits f 2 3 i && (fits f 3 63 i && fits f 4 7 i))))) (R0 .lines-are)
-        ∙ first-both (fits f 0 5) (λ i. fits f 1 7 i && (fits f 2 3 i && (fits f 3 63 i && fits f 4 7 i))) count
+        ∙ first-both (fits f 2 4) (λ i. fits f 3 63 i && fits f 4 7 i) (from .lines)
+        ∙ ap (firstBelow (λ i. not (fits f 2 4 i && (fits f 3 63 i && fits f 4 7 i)))) (R1 .lines-are)
+        ∙ first-both (fits f 1 7) (λ i. fits f 2 4 i && (fits f 3 63 i && fits f 4 7 i)) (resource .lines)
+        ∙ ap (firstBelow (λ i. not (fits f 1 7 i && (fits f 2 4 i && (fits f 3 63 i && fits f 4 7 i))))) (R0 .lines-are)
+        ∙ first-both (fits f 0 5) (λ i. fits f 1 7 i && (fits f 2 4 i && (fits f 3 63 i && fits f 4 7 i))) count
         ∙ first-same _ (leaves f) count (λ i low. at i (omega arith))
         ∙ ap (firstBelow (leaves f)) all
       where
         at :
             (i : ℕ)
             → i < 64
-            → not (fits f 0 5 i && (fits f 1 7 i && (fits f 2 3 i && (fits f 3 63 i && fits f 4 7 i)))) ≡ leaves f i
+            → not (fits f 0 5 i && (fits f 1 7 i && (fits f 2 4 i && (fits f 3 63 i && fits f 4 7 i)))) ≡ leaves f i
         at i low = rw (
           within-most 5 (numberAt f 0 i),
           within-most 7 (numberAt f 1 i),
-          within-most 3 (numberAt f 2 i),
+          within-most 4 (numberAt f 2 i),
           within-most 63 (numberAt f 3 i),
           within-most 7 (numberAt f 4 i),
           column-at f 0 i low,
@@ -117,7 +117,7 @@ module _
           let most3 : arg .lines ≤ count = omega (arith, R3 .fewer) in
           let a = read-all f 0 0 5 count count resource R0 (omega arith) (omega (arith, R1 .fewer, R2 .fewer, R3 .fewer, R4 .fewer)) few all in
           let b = read-all f 1 0 7 (resource .lines) count from R1 most0 (omega (arith, R2 .fewer, R3 .fewer, R4 .fewer)) few all in
-          let c = read-all f 2 0 3 (from .lines) count act R2 most1 (omega (arith, R3 .fewer, R4 .fewer)) few all in
+          let c = read-all f 2 0 4 (from .lines) count act R2 most1 (omega (arith, R3 .fewer, R4 .fewer)) few all in
           let d = read-all f 3 0 63 (act .lines) count arg R3 most2 (omega (arith, R4 .fewer)) few all in
           let e = read-all f 4 0 7 (arg .lines) count to R4 most3 past few all in
           λ i. record { count = all i; resource = a i; from = b i; act = c i; arg = d i; to = e i; limits = noLimits }

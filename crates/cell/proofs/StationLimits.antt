@@ -16,7 +16,7 @@ use Rattle.refusals.specs.Verdict.{firstRefusal, rule3}
 use Rattle.refusals.proofs.EveryBelow.{any-none, any-not}
 use Rattle.refusals.proofs.Verdicts.{noLine-kept}
 use Rattle.cell.specs.declared.Cell.{Cell}
-use Rattle.cell.specs.Rules.{rule4, limitInRange, limitLeavesRange, rule4Limits, resourceCount, rule5, rule6, limitsAbsent, rule20, cellRules, checkCell}
+use Rattle.cell.specs.Rules.{rule4, limitInRange, limitLeavesRange, rule4Limits, resourceCount, rule5, rule6, limitsAbsent, rule20, rule23, cellRules, checkCell}
 use Rattle.cell.specs.Reader.{noLimits}
 use Rattle.cell.specs.Inner.{afterRange}
 
@@ -81,10 +81,17 @@ module _ (c : Cell) (eights : c .limits ≡ noLimits) where
 
   pub eights-pass : rule3 (c .count) ≡ Accepted → firstRefusal (rule4 c ∷ afterRange c) ≡ checkCell c
   unfolding firstRefusal checkCell cellRules afterRange
-  eights-pass counted = judge (rule4 c) (rule5 c) (rule6 c) refl refl refl
+  eights-pass counted = judge (rule4 c) (rule5 c) (rule6 c) (rule23 c) refl refl refl refl
     where
-      judge : (v w x : Verdict) → rule4 c ≡ v → rule5 c ≡ w → rule6 c ≡ x → firstRefusal (rule4 c ∷ afterRange c) ≡ checkCell c
-      judge (Refused refusal line) w x e f g = rw (counted, e)
-      judge Accepted (Refused refusal line) x e f g = rw (counted, in-range, e, f)
-      judge Accepted Accepted (Refused refusal line) e f g = rw (counted, in-range, anywhere, e, f, g)
-      judge Accepted Accepted Accepted e f g = rw (counted, in-range, anywhere, e, f, g)
+      judge :
+          (v w x y : Verdict)
+          → rule4 c ≡ v
+          → rule5 c ≡ w
+          → rule6 c ≡ x
+          → rule23 c ≡ y
+          → firstRefusal (rule4 c ∷ afterRange c) ≡ checkCell c
+      judge (Refused refusal line) w x y e f g h = rw (counted, e)
+      judge Accepted (Refused refusal line) x y e f g h = rw (counted, in-range, e, f)
+      judge Accepted Accepted (Refused refusal line) y e f g h = rw (counted, in-range, anywhere, e, f, g)
+      judge Accepted Accepted Accepted (Refused refusal line) e f g h = rw (counted, in-range, anywhere, e, f, g, h)
+      judge Accepted Accepted Accepted Accepted e f g h = rw (counted, in-range, anywhere, e, f, g, h)

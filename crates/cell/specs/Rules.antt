@@ -6,14 +6,15 @@ use Prim.Native.Nat.{ℕ, _+_}
 use lib.ListN.{getD}
 use lib.Dec.{eqb, leb}
 use Rattle.refusals.specs.declared.Verdict.{Verdict}
-use Rattle.refusals.specs.declared.Refusal.the-variants.{Range, ResourceGap, NoPartner, LimitResource}
+use Rattle.refusals.specs.declared.Refusal.the-variants.{Range, ResourceGap, NoPartner, LimitResource, RejectLine}
 use Rattle.refusals.specs.Search.{anyBelow, greatestBelow, isOf}
 use Rattle.refusals.specs.Verdict.{firstRefusal, firstLine, noLine, rule3}
 use Rattle.cell.specs.declared.Cell.{Cell}
 
--- "Ranges: resource 0 to 5, from and to 0 to 7, arg 0 to 63, act: 0 internal, 1 operation, 2 in, 3 out."
+-- "Ranges: resource 0 to 5, from and to 0 to 7, arg 0 to 63, act: 0 internal, 1 operation, 2 in, 3 out.", and "Act 4 joins the range in
+-- rule 4."
 unfoldable pub inRange : ℕ → ℕ → ℕ → ℕ → ℕ → Bool
-inRange resource from act arg to = leb resource 5 && (leb from 7 && (leb act 3 && (leb arg 63 && leb to 7)))
+inRange resource from act arg to = leb resource 5 && (leb from 7 && (leb act 4 && (leb arg 63 && leb to 7)))
 
 -- "A number leaves its range": one of line n's numbers does
 unfoldable pub leavesRange : List ℕ → List ℕ → List ℕ → List ℕ → List ℕ → ℕ → Bool
@@ -73,6 +74,12 @@ unpaired resource act arg count i =
 unfoldable pub rule6 : Cell → Verdict
 rule6 c = firstLine NoPartner (unpaired (c .resource) (c .act) (c .arg) (c .count)) (c .count)
 
+-- "of the same resource, from and arg": line k has the act, and these three of line i
+unfoldable pub alike : List ℕ → List ℕ → List ℕ → List ℕ → ℕ → ℕ → ℕ → Bool
+alike resource from act arg wanted i k =
+    eqb (getD act k 0) wanted
+    && (eqb (getD resource k 0) (getD resource i 0) && (eqb (getD from k 0) (getD from i 0) && eqb (getD arg k 0) (getD arg i 0)))
+
 -- "one other than 8 at or above R": that of resource k is, where there are R resources
 unfoldable pub limitsAbsent : List ℕ → ℕ → ℕ → Bool
 limitsAbsent limits R k = leb R k && not (eqb (getD limits k 0) 8)
@@ -81,9 +88,19 @@ limitsAbsent limits R k = leb R k && not (eqb (getD limits k 0) 8)
 unfoldable pub rule20 : Cell → Verdict
 rule20 c = noLine LimitResource (anyBelow (limitsAbsent (c .limits) (resourceCount c)) 6)
 
+-- "an act 4 line has no act 1 line of the same resource, from and arg, or .. two act 4 lines share these": line i is such a line, of a
+-- pair the later one
+unfoldable pub stray : List ℕ → List ℕ → List ℕ → List ℕ → ℕ → ℕ → Bool
+stray resource from act arg count i =
+    eqb (getD act i 0) 4 && (not (anyBelow (alike resource from act arg 1 i) count) || anyBelow (alike resource from act arg 4 i) i)
+
+-- "23 if an act 4 line has no act 1 line of the same resource, from and arg, or if two act 4 lines share these, after 20"
+unfoldable pub rule23 : Cell → Verdict
+rule23 c = firstLine RejectLine (stray (c .resource) (c .from) (c .act) (c .arg) (c .count)) (c .count)
+
 -- "Planner and run calls check handed-in values anew from rule 3, cell first: all of its rules"
 unfoldable pub cellRules : Cell → List Verdict
-cellRules c = rule3 (c .count) ∷ rule4 c ∷ rule4Limits c ∷ rule5 c ∷ rule6 c ∷ rule20 c ∷ []
+cellRules c = rule3 (c .count) ∷ rule4 c ∷ rule4Limits c ∷ rule5 c ∷ rule6 c ∷ rule20 c ∷ rule23 c ∷ []
 
 unfoldable pub checkCell : Cell → Verdict
 checkCell c = firstRefusal (cellRules c)

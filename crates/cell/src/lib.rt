@@ -1,4 +1,5 @@
 // The cell: its record, the rules on a record, and its reader.
+pub mod gates;
 pub mod limits;
 pub mod longer;
 mod ports;
@@ -10,8 +11,8 @@ ghost use mathlib.Core.Path.{_≡_};
 ghost use Prim.Native.Nat.{_≤_};
 ghost use Rattle.refusals.specs.Verdict.{firstRefusal};
 ghost use Rattle.cell.specs.Reader.{readCell};
-ghost use Rattle.cell.specs.Rules.{checkCell};
-ghost use Rattle.cell.specs.Inner.{ranges, afterRange, limitsVerdict};
+ghost use Rattle.cell.specs.Rules.{rule23, checkCell};
+ghost use Rattle.cell.specs.Inner.{ranges, portRules, limitsVerdict};
 use refusals::Refusal;
 use refusals::Verdict;
 use tables::Form;
@@ -68,7 +69,7 @@ fn check_ranges(cell: Cell) -> Verdict
 // Rules 5 and 6, on a record that passed rules 3 and 4.
 pub fn check_ports(cell: Cell) -> Verdict
     requires { ⌜ cell .count ≤ 64 ⌝ }
-    ensures { λ r. ⌜ r ≡ firstRefusal (afterRange cell) ⌝ }
+    ensures { λ r. ⌜ r ≡ firstRefusal (portRules cell) ⌝ }
 {
     let count = cell.count;
     let resource = cell.resource;
@@ -96,6 +97,20 @@ fn check_limits(most: &[u8; 6], resource: &[u8; 64], count: usize) -> Verdict
     Verdict::Accepted
 }
 
+// Rule 23, on a record that passed rule 3.
+pub fn check_gates(cell: Cell) -> Verdict
+    requires { ⌜ cell .count ≤ 64 ⌝ }
+    ensures { λ r. ⌜ r ≡ rule23 cell ⌝ }
+{
+    let count = cell.count;
+    let resource = cell.resource;
+    let from = cell.from;
+    let act = cell.act;
+    let arg = cell.arg;
+    let first = gates::first_stray(&resource, &from, &act, &arg, count);
+    refusals::at_line(Refusal::RejectLine, first, count)
+}
+
 // All rules on a record handed in, whatever is in it.
 pub fn check_cell(cell: Cell) -> Verdict
     ensures { λ r. ⌜ r ≡ checkCell cell ⌝ }
@@ -114,7 +129,11 @@ pub fn check_cell(cell: Cell) -> Verdict
     };
     let most = cell.limits;
     let resource = cell.resource;
-    check_limits(&most, &resource, cell.count)
+    let limited = check_limits(&most, &resource, cell.count);
+    let Verdict::Accepted = limited else {
+        return limited;
+    };
+    check_gates(cell)
 }
 
 // The cell that a file writes, whatever is in it.

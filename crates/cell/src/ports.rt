@@ -38,7 +38,8 @@ fn wide(byte: u8) -> usize
     byte as usize
 }
 
-// The place of an act on a port, one of 256. Within the ranges of rule 4 each has its own.
+// The place of an act on a port, one of 256. Within the ranges of rule 4 each has its own, but that acts 0 and 4 share theirs,
+// where no partner is sought.
 fn place_of(act: u8, arg: u8) -> usize
     ensures { λ r. ⌜ r ≡ act % 4 * 64 + arg % 64 ⌝ }
 {

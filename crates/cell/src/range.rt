@@ -14,7 +14,7 @@ fn in_range(resource: u8, from: u8, act: u8, arg: u8, to: u8) -> bool
     if 7 < from {
         return false;
     }
-    if 3 < act {
+    if 4 < act {
         return false;
     }
     if 63 < arg {

@@ -33,12 +33,24 @@ pub fn refused(refusal: Refusal, line: usize) -> CellReading
     }
 }
 
+// Rules 5, 6 and 23, on a record that passed rule 4 and whose limits are all 8: rule 20 has nothing against these.
+fn check_lines(cell: Cell) -> Verdict
+    requires { ⌜ cell .count ≤ 64 ⌝ }
+    ensures { λ r. ⌜ r ≡ firstRefusal (afterRange cell) ⌝ }
+{
+    let paired = crate::check_ports(cell);
+    let Verdict::Accepted = paired else {
+        return paired;
+    };
+    crate::check_gates(cell)
+}
+
 // The answer for a record that passed rule 4.
 fn judged(cell: Cell) -> CellReading
     requires { ⌜ cell .count ≤ 64 ⌝ }
     ensures { λ r. ⌜ r ≡ reading (firstRefusal (afterRange cell)) cell ⌝ }
 {
-    match crate::check_ports(cell) {
+    match check_lines(cell) {
         Verdict::Accepted => CellReading {
             verdict: Verdict::Accepted,
             cell,
@@ -54,7 +66,7 @@ fn store_lines(numbers: &[u32], count: usize) -> CellReading
 {
     let resources = field::column(numbers, count, 0, 0, 5);
     let froms = field::column(numbers, resources.lines, 1, 0, 7);
-    let acts = field::column(numbers, froms.lines, 2, 0, 3);
+    let acts = field::column(numbers, froms.lines, 2, 0, 4);
     let args = field::column(numbers, acts.lines, 3, 0, 63);
     let tos = field::column(numbers, args.lines, 4, 0, 7);
     if tos.lines < count {

@@ -144,7 +144,7 @@ module _ (f : List ℕ) (c : Cell) (accepted : judgeLimits f c ≡ Accepted) whe
 
   -- the other rules see no limit
   pub limited-passes : checkCell (limited f c) ≡ Accepted
-  unfolding checkCell cellRules limited firstRefusal cell.rule4 cell.rule4Limits cell.rule5 cell.rule6 cell.rule20 limit limits count
+  unfolding checkCell cellRules limited firstRefusal cell.rule4 cell.rule4Limits cell.rule5 cell.rule6 cell.rule20 cell.rule23 limit limits count
   limited-passes =
       let E = each-accepts c record-accepted in
-      rw (E .third, E .fourth, noLine-kept Range _ all-in-range, E .fifth, E .sixth, noLine-kept LimitResource _ none-absent)
+      rw (E .third, E .fourth, noLine-kept Range _ all-in-range, E .fifth, E .sixth, noLine-kept LimitResource _ none-absent, E .twenty-third)

@@ -12,8 +12,9 @@ use Rattle.positions.specs.declared.Configuration.{Configuration}
 use Rattle.positions.specs.declared.Sizes.{Sizes}
 use Rattle.positions.specs.Position.{entryOf}
 use Rattle.steps.specs.Lines.{resourceOf, toOf, stateOf, placeOf, kindOf, thenOf, elseOf}
+use Rattle.steps.specs.Gates.{gateOf}
 use Rattle.steps.specs.Carry.{placed}
-use Rattle.steps.specs.Entry.{entryKind, letter, lettersUsed, isFormed, mayBeTaken, endEntry}
+use Rattle.steps.specs.Entry.{entryKind, letter, linesUsed, isFormed, mayBeTaken, endEntry}
 
 -- "It keeps a point, a configuration and a count q."
 pub record Book : Type 0 where
@@ -70,10 +71,17 @@ movedTo c r p e n v =
     cond (eqb (entryKind e) 2) (cond (eqb v (resourceOf c (letter e 0) + 1)) (resourceOf c (letter e 1) + 1) v)
     (cond (eqb (entryKind e) 3 && eqb (kindOf r p) 1) (placed c r p (letter e) n v) v)
 
-unfoldable pub configurationAfter : Cell → Recipe → ℕ → Configuration → ℕ → Configuration
-configurationAfter c r p a e =
-    let n = lettersUsed r p e in
-    record { state = tabulate 6 (λ k. setTo c (letter e) n k (stateOf a k)); place = tabulate 8 (λ q. movedTo c r p e q (placeOf a q)) }
+-- "outcome 0 follows that line, in the book of 01 too": the line that is followed for letter j's line
+unfoldable pub arrow : Cell → Recipe → ℕ → ℕ → ℕ → ℕ → ℕ
+arrow c r p e outcome j =
+    cond (eqb (entryKind e) 3 && (eqb (kindOf r p) 2 && eqb outcome 0)) (gateOf c (letter e j)) (letter e j)
+
+unfoldable pub configurationAfter : Cell → Recipe → ℕ → Configuration → ℕ → ℕ → Configuration
+configurationAfter c r p a e outcome =
+    record {
+      state = tabulate 6 (λ k. setTo c (arrow c r p e outcome) (linesUsed r p e) k (stateOf a k));
+      place = tabulate 8 (λ q. movedTo c r p e q (placeOf a q));
+    }
 
 -- "the point becomes `then`, or `else` for a test at outcome 0"
 unfoldable pub pointAfter : Recipe → ℕ → ℕ → ℕ
@@ -82,7 +90,7 @@ pointAfter r p outcome = cond (eqb (kindOf r p) 2 && eqb outcome 0) (elseOf r p)
 -- the book after its move e is made: "Kinds 1 and 2 add 1 to q. .. After kind 3 the point becomes .., and q becomes 0."
 unfoldable pub made : Cell → Recipe → Book → ℕ → ℕ → Book
 made c r b e outcome =
-    let a = configurationAfter c r (b .point) (b .configuration) e in
+    let a = configurationAfter c r (b .point) (b .configuration) e outcome in
     cond (eqb (entryKind e) 3) (record { point = pointAfter r (b .point) outcome; configuration = a; q = 0 })
     (record { point = b .point; configuration = a; q = b .q + 1 })
 

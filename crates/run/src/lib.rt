@@ -157,7 +157,14 @@ impl Run {
         if steps::point_kind(recipe, self.point) == 0 {
             return refused(self, Refusal::AtEnd);
         }
-        let configuration = moves::make(cell, recipe, self.point, self.configuration, entry);
+        let configuration = moves::make(
+            cell,
+            recipe,
+            self.point,
+            self.configuration,
+            entry,
+            outcome,
+        );
         self.point = steps::lead(recipe, self.point, entry, outcome);
         self.configuration = configuration;
         Report {

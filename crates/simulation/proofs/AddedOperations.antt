@@ -7,12 +7,13 @@ use Rattle.recipe.specs.declared.Recipe.{Recipe}
 use Rattle.positions.specs.declared.Configuration.{Configuration}
 use Rattle.positions.specs.declared.Sizes.{Sizes}
 use Rattle.positions.specs.Checked.{Checked}
-use Rattle.steps.specs.Lines.{placeOf, kindOf, thenOf, elseOf}
+use Rattle.steps.specs.Lines.{placeOf, linesOf, kindOf, thenOf, elseOf}
 use Rattle.steps.specs.Limits.{noneOverfull}
+use Rattle.steps.proofs.PointLines.{point-lines}
 use Rattle.steps.proofs.StationLoads.{silent-steps}
 use Rattle.steps.proofs.AddedOperations.{AddedOperations, moved, added-room, added-after, added-silent, added-after-carry, added-carries}
 use Rattle.simulation.specs.Simulation.{Position, Silently, none, more, Set, GoesOn, Simulation, Greatest}
-use Rattle.simulation.proofs.CellMachine.{position-places}
+use Rattle.simulation.proofs.CellMachine.{position-point, position-places}
 use Rattle.simulation.proofs.SinglePaths.{singly-stays}
 use Rattle.simulation.proofs.JointIsSingle.{silently-singly}
 
@@ -33,13 +34,14 @@ module _ (c d : Cell) (added : AddedOperations c d) (r : Recipe) (z : Sizes) (K 
     on-there : (S : Set) → GoesOn c r S p a → GoesOn d r S p a
     on-there S next =
         let most : (q : ℕ) → q < 8 → placeOf (next .before) q ≤ 6 = path-places (next .silently) in
-        let made = added-after-carry c d added r p (next .step) (next .lines) (next .before) (next .carrying) most in
+        let lines : 1 ≤ linesOf r p = point-lines r (K .recipe-passes) p (position-point c r z K p a here) .some in
+        let made = added-after-carry c d added r p (next .step) (next .lines) (next .before) (next .carrying) most (K .cell-passes) lines in
         record {
           before = next .before;
           silently = silently-there (next .silently);
           step = moved (added .at) (next .step);
           lines = λ j. added .at (next .lines j);
-          carrying = added-carries c d added r p (next .step) (next .lines) (next .before) (next .carrying) most;
+          carrying = added-carries c d added r p (next .step) (next .lines) (next .before) (next .carrying) most (K .cell-passes) lines;
           then = ap (S (thenOf r p)) (made 1) ∙ next .then;
           otherwise = λ test. ap (S (elseOf r p)) (made 0) ∙ next .otherwise test;
         }

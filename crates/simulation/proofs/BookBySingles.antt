@@ -4,34 +4,39 @@
 use mathlib.Core.Path.{_≡_, refl, sym, ap, _∙_}
 use mathlib.Core.Bool.{Bool, true, false, cond, _&&_}
 use mathlib.Core.List.{map}
-use Prim.Native.Nat.{ℕ, zero, suc, _+_, _≤_}
+use Prim.Native.Nat.{ℕ, zero, suc, _+_, _<_, _≤_}
 use native.Mathlib.Numerals.{add-one}
 use native.Mathlib.Omega.{arith}
-use lib.ListN.{length-map}
+use lib.ListN.{set, length-map}
 use lib.Dec.{eqb}
 use borrow.Author.Tests.{eqb-true, eqb-false, eq-eqb, ne-eqb}
 use Rattle.refusals.specs.Search.{tabulate}
-use Rattle.refusals.proofs.TabulatedLists.{tabulate-is, tabulate-same}
+use Rattle.refusals.proofs.TabulatedLists.{tabulate-is, tabulate-same, tabulate-set}
 use Rattle.cell.specs.declared.Cell.{Cell}
 use Rattle.recipe.specs.declared.Recipe.{Recipe}
 use Rattle.positions.specs.declared.Configuration.{Configuration}
 use Rattle.positions.specs.declared.Sizes.{Sizes}
 use Rattle.positions.specs.Checked.{Checked}
-use Rattle.steps.specs.Lines.{resourceOf, toOf, stateOf, placeOf, kindOf, thenOf, elseOf}
-use Rattle.steps.specs.Joint.{stateAfter, after}
+use Rattle.steps.specs.Lines.{resourceOf, toOf, stateOf, placeOf, linesOf, kindOf, thenOf, elseOf}
+use Rattle.steps.specs.Gates.{gateOf, gated}
+use Rattle.steps.specs.Joint.{Choice, rests, stateAfter, after}
 use Rattle.steps.specs.Carry.{placed, partsMoved, afterCarry}
-use Rattle.steps.specs.Entry.{entryKind, letter, lettersUsed, only, stepOf}
+use Rattle.steps.specs.Entry.{entryKind, letter, linesUsed, only, stepOf}
 use Rattle.steps.specs.Effect.{silent, carried, effect, opens, leaves, makes, leadsTo}
 use Rattle.steps.specs.Single.{handOver, carriesTo}
+use Rattle.steps.proofs.PointLines.{PointLines, point-lines}
+use Rattle.steps.proofs.ReadyLines.{resources-fit}
+use Rattle.steps.proofs.GateLines.{gate-resource}
+use Rattle.steps.proofs.EntryForms.{formed-carry}
 use Rattle.steps.proofs.MadeConfiguration.{handed-at}
-use Rattle.steps.proofs.Effects.{Open, open-silent, open-carried, open-ended, open-is, read-silent, read-carried, read-ended, makes-is}
-use Rattle.steps.proofs.Effects.{leads-silent, do-leads, passed-leads, failed-leads}
+use Rattle.steps.proofs.Effects.{IsCarried, Open, open-silent, open-carried, open-ended, open-is, read-silent, read-carried, read-ended, makes-is}
+use Rattle.steps.proofs.Effects.{do-same, leads-silent, do-leads, passed-leads, failed-leads}
 use Rattle.steps.proofs.SingleEffects.{single-silent, single-carried}
 use Rattle.steps.proofs.SingleMoves.{SilentMove, internal, transfer, silent-move, carry-makes, do-places, test-places, hands-over, hands-keeps}
 use Rattle.steps.proofs.OpenByKind.{end-opens, opens-joint}
-use Rattle.run.specs.Book.{Book, atEnd, isOpen, setTo, movedTo, configurationAfter, pointAfter, made}
+use Rattle.run.specs.Book.{Book, atEnd, isOpen, setTo, movedTo, arrow, configurationAfter, pointAfter, made}
 use Rattle.simulation.specs.Simulation.{Position}
-use Rattle.simulation.proofs.CellMachine.{position-kind}
+use Rattle.simulation.proofs.CellMachine.{position-point, position-kind}
 
 pub record BookIs (c : Cell) (r : Recipe) (z : Sizes) : Type 0 where
   pub open-is :
@@ -72,6 +77,35 @@ sets c ls (suc n) k s = decide (sets c ls n k s) (eqb k (resourceOf c (ls n)))
     decide before true = refl
     decide before false = before
 
+-- by the same lines to the same
+sets-same : (c : Cell) (ls ms : ℕ → ℕ) → ((j : ℕ) → ls j ≡ ms j) → (n k s : ℕ) → setTo c ls n k s ≡ setTo c ms n k s
+unfolding setTo
+sets-same c ls ms same zero k s = refl
+sets-same c ls ms same (suc n) k s = rw (same n, sets-same c ls ms same n k s)
+
+-- which lines are followed
+module _ (c : Cell) (r : Recipe) (p e : ℕ) where
+  follows-silent : (outcome : ℕ) → (entryKind e ≡ 3 → ⊥) → (j : ℕ) → arrow c r p e outcome j ≡ letter e j
+  unfolding arrow
+  follows-silent outcome quiet j = rw (ne-eqb (entryKind e) 3 quiet)
+
+  follows-passed : (j : ℕ) → arrow c r p e 1 j ≡ letter e j
+  unfolding arrow
+  follows-passed j = decide (eqb (entryKind e) 3) (eqb (kindOf r p) 2)
+    where
+      decide : (s t : Bool) → cond (s && (t && false)) (gateOf c (letter e j)) (letter e j) ≡ letter e j
+      decide true true = refl
+      decide true false = refl
+      decide false t = refl
+
+  follows-do : (outcome : ℕ) → kindOf r p ≡ 1 → (j : ℕ) → arrow c r p e outcome j ≡ letter e j
+  unfolding arrow
+  follows-do outcome work j = rw work (decide (eqb (entryKind e) 3))
+    where
+      decide : (s : Bool) → cond (s && false) (gateOf c (letter e j)) (letter e j) ≡ letter e j
+      decide true = refl
+      decide false = refl
+
 -- where the parts go
 module _ (c : Cell) (r : Recipe) (p e : ℕ) where
   stay-put : entryKind e ≡ 1 → (n v : ℕ) → movedTo c r p e n v ≡ v
@@ -105,28 +139,28 @@ module _
     (c : Cell) (r : Recipe) (z : Sizes) (K : Checked c r z)
     (p : ℕ) (a : Configuration) (here : Position z p a) (e : ℕ)
   where
-    states-step : tabulate 6 (λ k. setTo c (letter e) (lettersUsed r p e) k (stateOf a k)) ≡ after c (stepOf c r p e) a .state
+    -- the states, where the letters' own lines are followed
+    states-step :
+        (outcome : ℕ)
+        → ((j : ℕ) → arrow c r p e outcome j ≡ letter e j)
+        → tabulate 6 (λ k. setTo c (arrow c r p e outcome) (linesUsed r p e) k (stateOf a k)) ≡ after c (stepOf c r p e) a .state
     unfolding after stepOf
-    states-step =
+    states-step outcome own =
         tabulate-same
-        (λ k. setTo c (letter e) (lettersUsed r p e) k (stateOf a k))
-        (λ k. stateAfter c (only c (letter e) (lettersUsed r p e) k) (stateOf a k))
+        (λ k. setTo c (arrow c r p e outcome) (linesUsed r p e) k (stateOf a k))
+        (λ k. stateAfter c (only c (letter e) (linesUsed r p e) k) (stateOf a k))
         6
-        (λ k low. sets c (letter e) (lettersUsed r p e) k (stateOf a k))
-
-    carry-step-states : (outcome : ℕ) → after c (stepOf c r p e) a .state ≡ afterCarry c r p (stepOf c r p e) (letter e) outcome a .state
-    unfolding afterCarry partsMoved
-    carry-step-states outcome = decide (eqb (kindOf r p) 1) (after c (stepOf c r p e) a)
-      where
-        decide : (t : Bool) (d : Configuration) → d .state ≡ cond t (partsMoved c r p (letter e) d) d .state
-        decide true d = refl
-        decide false d = refl
+        (λ k low. sets-same c (arrow c r p e outcome) (letter e) own (linesUsed r p e) k (stateOf a k)
+        ∙ sets c (letter e) (linesUsed r p e) k (stateOf a k))
 
     -- the book's configuration, by its states and its places
-    joined : (b : Configuration) → after c (stepOf c r p e) a .state ≡ b .state
-        → tabulate 8 (λ n. movedTo c r p e n (placeOf a n)) ≡ b .place → configurationAfter c r p a e ≡ b
+    joined :
+        (outcome : ℕ) (b : Configuration)
+        → tabulate 6 (λ k. setTo c (arrow c r p e outcome) (linesUsed r p e) k (stateOf a k)) ≡ b .state
+        → tabulate 8 (λ n. movedTo c r p e n (placeOf a n)) ≡ b .place
+        → configurationAfter c r p a e outcome ≡ b
     unfolding configurationAfter
-    joined b states places = λ i. record { state = (states-step ∙ states) i; place = places i }
+    joined outcome b states places = λ i. record { state = states i; place = places i }
 
     silent-places : (b : Configuration) → SilentMove c a e b → tabulate 8 (λ n. movedTo c r p e n (placeOf a n)) ≡ b .place
     silent-places b (internal kind move) =
@@ -140,12 +174,14 @@ module _
         (λ n low. go-over c r p e kind n (placeOf a n) ∙ sym (handed-at o i (a .place) n))
         ∙ sym (ap (λ (d : Configuration). d .place) (move .made))
 
-    silent-made : (b : Configuration) → effect c r p a e ≡ silent b → configurationAfter c r p a e ≡ b
-    silent-made b is =
+    silent-made : (outcome : ℕ) (b : Configuration) → effect c r p a e ≡ silent b → configurationAfter c r p a e outcome ≡ b
+    silent-made outcome b is =
         let quiet = read-silent c r p a e is in
         let move =
         silent-move c a e (single-silent c r p a e (K .cell-passes) (here .six) (here .eight) is) in
-        joined b (sym (ap (λ (d : Configuration). d .state) (quiet .made))) (silent-places b move)
+        joined outcome b
+        (states-step outcome (follows-silent c r p e outcome (quiet .kind)) ∙ sym (ap (λ (d : Configuration). d .state) (quiet .made)))
+        (silent-places b move)
 
     carry-places : (b : Configuration) (outcome : ℕ) → entryKind e ≡ 3 → b ≡ carriesTo c r p a e outcome
         → tabulate 8 (λ n. movedTo c r p e n (placeOf a n)) ≡ b .place
@@ -165,27 +201,107 @@ module _
     most : kindOf r p ≤ 2
     most = position-kind c r z K p a here
 
-    carried-made : (b d : Configuration) → effect c r p a e ≡ carried b d → (configurationAfter c r p a e ≡ b) × (configurationAfter c r p a e ≡ d)
-    carried-made b d is =
-        let carry = read-carried c r p a e is in
-        let made =
-        carry-makes c r p a e (single-carried c r p a e (K .cell-passes) (here .six) (here .eight) most is) in (
-          joined b (carry-step-states 1 ∙ sym (ap (λ (f : Configuration). f .state) (carry .passed))) (carry-places b 1 (carry .kind) (made .0)),
-          joined d (carry-step-states 0 ∙ sym (ap (λ (f : Configuration). f .state) (carry .failed))) (carry-places d 0 (carry .kind) (made .1)),
-        )
+    lines : PointLines r p
+    lines = point-lines r (K .recipe-passes) p (position-point c r z K p a here)
 
-    configuration-made : (outcome : ℕ) → (kindOf r p ≡ 0 → ⊥) → opens c r p a e ≡ true → configurationAfter c r p a e ≡ makes c r p a e outcome
+    -- at outcome 1, and at a do always, the letters' own lines are followed
+    module _ (b d : Configuration) (is : effect c r p a e ≡ carried b d) where
+      carry : IsCarried c r p a e b d
+      carry = read-carried c r p a e is
+
+      x : Choice
+      x = stepOf c r p e
+
+      passed-states : after c x a .state ≡ b .state
+      unfolding x afterCarry partsMoved
+      passed-states = decide (eqb (kindOf r p) 1) (after c x a) ∙ sym (ap (λ (f : Configuration). f .state) (carry .passed))
+        where
+          decide : (t : Bool) (f : Configuration) → f .state ≡ cond t (partsMoved c r p (letter e) f) f .state
+          decide true f = refl
+          decide false f = refl
+
+      -- at outcome 0 of a test its gate, or the line if it has none
+      module _ (two : kindOf r p ≡ 2) where
+        station : ℕ
+        station = resourceOf c (letter e 0)
+
+        used : linesUsed r p e ≡ 1
+        unfolding linesUsed
+        used = rw (carry .kind) (lines .single (λ (z : kindOf r p ≡ 1). omega arith))
+
+        station-low : station < 6
+        unfolding station
+        station-low =
+            let one : linesOf r p ≡ 1 = lines .single (λ (z : kindOf r p ≡ 1). omega arith) in
+            resources-fit c (K .cell-passes) (letter e 0) (formed-carry c r p e (carry .formed) one (carry .kind) .0)
+
+        sets-gate :
+            (k s : ℕ)
+            → setTo c (arrow c r p e 0) (linesUsed r p e) k s ≡ cond (eqb k station) (toOf c (gateOf c (letter e 0))) s
+        unfolding station setTo arrow
+        sets-gate k s = rw (used, carry .kind, two, gate-resource c (letter e 0))
+
+        rests-elsewhere : (k : ℕ) → (k ≡ station → ⊥) → x k ≡ rests
+        unfolding station x stepOf only
+        rests-elsewhere k other = rw (used, ne-eqb k (resourceOf c (letter e 0)) other)
+
+        gate-ends : set (tabulate 6 (λ k. stateAfter c (x k) (stateOf a k))) station (toOf c (gateOf c (letter e 0))) ≡ d .state
+        unfolding station x afterCarry gated after
+        gate-ends = sym (ap (λ (f : Configuration). f .state) (carry .failed) ∙ rw two)
+
+        failed-states : tabulate 6 (λ k. setTo c (arrow c r p e 0) (linesUsed r p e) k (stateOf a k)) ≡ d .state
+        unfolding stateAfter
+        failed-states =
+            let set-to : ℕ → ℕ = λ k. setTo c (arrow c r p e 0) (linesUsed r p e) k (stateOf a k) in
+            let stepped : ℕ → ℕ = λ k. stateAfter c (x k) (stateOf a k) in
+            sym
+            (tabulate-set stepped set-to 6 station station-low
+            (λ k less other. sets-gate k (stateOf a k) ∙ rw (ne-eqb k station other, rests-elsewhere k other)))
+            ∙ ap (set (tabulate 6 stepped) station) (sets-gate station (stateOf a station) ∙ rw (eq-eqb station station refl))
+            ∙ gate-ends
+
+      made-singly : (b ≡ carriesTo c r p a e 1) × (d ≡ carriesTo c r p a e 0)
+      made-singly = carry-makes c r p a e (single-carried c r p a e (K .cell-passes) (here .six) (here .eight) most is)
+
+      passed-made : configurationAfter c r p a e 1 ≡ b
+      unfolding x
+      passed-made =
+          joined 1 b (states-step 1 (follows-passed c r p e) ∙ passed-states) (carry-places b 1 (carry .kind) (made-singly .0))
+
+      failed-made : configurationAfter c r p a e 0 ≡ d
+      unfolding x
+      failed-made = decide (eqb (kindOf r p) 1) refl
+        where
+          decide : (t : Bool) → eqb (kindOf r p) 1 ≡ t → configurationAfter c r p a e 0 ≡ d
+          decide true one =
+              let work = eqb-true (kindOf r p) 1 one in
+              let same : d ≡ b = do-same c r p a e is work in
+              joined 0 d
+              (states-step 0 (follows-do c r p e 0 work) ∙ passed-states ∙ sym (ap (λ (f : Configuration). f .state) same))
+              (carry-places d 0 (carry .kind) (made-singly .1))
+          decide false other =
+              let ne : kindOf r p ≡ 1 → ⊥ = eqb-false (kindOf r p) 1 other in
+              let some : 1 ≤ kindOf r p = positive (carry .some) in
+              joined 0 d (failed-states (omega (arith, most))) (carry-places d 0 (carry .kind) (made-singly .1))
+            where
+              positive : (kindOf r p ≡ 0 → ⊥) → 1 ≤ kindOf r p
+              positive none = omega arith
+
+    configuration-made : (outcome : ℕ) → outcome ≤ 1 → (kindOf r p ≡ 0 → ⊥) → opens c r p a e ≡ true → configurationAfter c r p a e outcome ≡ makes c r p a e outcome
     unfolding leaves
-    configuration-made outcome some able = go (open-is c r p a e able)
+    configuration-made outcome low some able = go (open-is c r p a e able)
       where
-        either : (t : Bool) (x y z : Configuration) → x ≡ y → x ≡ z → x ≡ cond t y z
-        either true x y z f g = f
-        either false x y z f g = g
+        told : (b d : Configuration) → effect c r p a e ≡ carried b d → (t : Bool) → eqb outcome 1 ≡ t
+            → configurationAfter c r p a e outcome ≡ cond t b d
+        told b d is true one = ap (configurationAfter c r p a e) (eqb-true outcome 1 one) ∙ passed-made b d is
+        told b d is false other =
+            let ne : outcome ≡ 1 → ⊥ = eqb-false outcome 1 other in
+            let nil : outcome ≡ 0 = omega arith in
+            ap (configurationAfter c r p a e) nil ∙ failed-made b d is
 
-        go : Open c r p a e → configurationAfter c r p a e ≡ makes c r p a e outcome
-        go (open-silent b is) = silent-made b is ∙ sym (makes-is c r p a e (silent b) is outcome)
-        go (open-carried b d is) = let made = carried-made b d is in
-            either (eqb outcome 1) _ b d (made .0) (made .1) ∙ sym (makes-is c r p a e (carried b d) is outcome)
+        go : Open c r p a e → configurationAfter c r p a e outcome ≡ makes c r p a e outcome
+        go (open-silent b is) = silent-made outcome b is ∙ sym (makes-is c r p a e (silent b) is outcome)
+        go (open-carried b d is) = told b d is (eqb outcome 1) refl ∙ sym (makes-is c r p a e (carried b d) is outcome)
         go (open-ended is) = absurd (some (read-ended c r p a e is .done))
 
     point-made : (outcome : ℕ) → outcome ≤ 1 → (kindOf r p ≡ 0 → ⊥) → entryKind e ≡ 3 → pointAfter r p outcome ≡ leadsTo r p e outcome
@@ -224,15 +340,15 @@ made-single :
 unfolding made
 made-single c r z K b e outcome here some able low = decide (eqb (entryKind e) 3) refl
   where
-    configuration : configurationAfter c r (b .point) (b .configuration) e ≡ makes c r (b .point) (b .configuration) e outcome
-    configuration = configuration-made c r z K (b .point) (b .configuration) here e outcome some able
+    configuration : configurationAfter c r (b .point) (b .configuration) e outcome ≡ makes c r (b .point) (b .configuration) e outcome
+    configuration = configuration-made c r z K (b .point) (b .configuration) here e outcome low some able
 
     decide :
         (t : Bool)
         → eqb (entryKind e) 3 ≡ t
         → _≡_ {A = Book} (cond t
-        (record { point = pointAfter r (b .point) outcome; configuration = configurationAfter c r (b .point) (b .configuration) e; q = 0 })
-        (record { point = b .point; configuration = configurationAfter c r (b .point) (b .configuration) e; q = b .q + 1 }))
+        (record { point = pointAfter r (b .point) outcome; configuration = configurationAfter c r (b .point) (b .configuration) e outcome; q = 0 })
+        (record { point = b .point; configuration = configurationAfter c r (b .point) (b .configuration) e outcome; q = b .q + 1 }))
         (record { point = leadsTo r (b .point) e outcome; configuration = makes c r (b .point) (b .configuration) e outcome; q = cond t 0 (b .q + 1) })
     decide true is =
         let point : pointAfter r (b .point) outcome ≡ leadsTo r (b .point) e outcome =

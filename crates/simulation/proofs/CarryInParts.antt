@@ -5,24 +5,27 @@ use mathlib.Core.Path.{_≡_, refl, sym, ap, _∙_}
 use mathlib.Core.Bool.{Bool, true, false, cond, not, _&&_, _||_, true≢false}
 use mathlib.Core.List.{List}
 use Prim.Native.Nat.{ℕ, zero, suc, _+_, _<_, _≤_}
+use native.Mathlib.Decide.{ℕ-discrete}
 use native.Mathlib.Numerals.{add-one}
 use native.Mathlib.Omega.{arith}
-use lib.ListN.{getD}
+use lib.ListN.{length, getD, set}
+use lib.Seq.{getD-set-same, getD-set-other}
 use lib.Dec.{eqb}
 use borrow.Author.Tests.{eqb-true, eq-eqb, ltb-true, not-true}
 use Rattle.refusals.specs.declared.Verdict.the-variants.{Accepted}
-use Rattle.refusals.specs.Search.{allBelow, countBelow}
+use Rattle.refusals.specs.Search.{allBelow, countBelow, tabulate}
 use Rattle.refusals.proofs.EveryBelow.{all-by, all-at, count-same}
-use Rattle.refusals.proofs.TabulatedLists.{tabulate-at, tabulate-same}
+use Rattle.refusals.proofs.TabulatedLists.{tabulate-at, tabulate-same, tabulate-set, length-tabulate}
 use Rattle.refusals.proofs.Verdicts.{and-left, and-right}
 use Rattle.cell.specs.declared.Cell.{Cell}
 use Rattle.cell.specs.Rules.{checkCell}
 use Rattle.recipe.specs.declared.Recipe.{Recipe}
 use Rattle.recipe.specs.Rules.{holdsPart}
 use Rattle.positions.specs.declared.Configuration.{Configuration}
-use Rattle.steps.specs.Lines.{resourceOf, placeOf, firstLineOf, linesOf, lineOf, kindOf, isTaken, isGiven}
+use Rattle.steps.specs.Lines.{resourceOf, toOf, stateOf, placeOf, firstLineOf, linesOf, lineOf, kindOf, isTaken, isGiven}
 use Rattle.steps.specs.Limits.{load, noneOverfull}
-use Rattle.steps.specs.Joint.{Choice, rests, mayDo, acts, isStep, isSilent, handed, placeAfter, after}
+use Rattle.steps.specs.Gates.{gateOf, gated}
+use Rattle.steps.specs.Joint.{Choice, rests, mayDo, acts, isStep, isSilent, stateAfter, handed, placeAfter, after}
 use Rattle.steps.specs.Carry.{serves, matches, standsAt, present, isFree, free, suits, carries, putThere, placed, partsMoved, afterCarry}
 use Rattle.steps.proofs.ReadyLines.{both, resources-fit}
 use Rattle.steps.proofs.StationLoads.{carry-suits, carry-room, carry-by, room-at, room-by, rest-load}
@@ -191,6 +194,37 @@ module _ (c : Cell) (r : Recipe) (p : ℕ) (ls : ℕ → ℕ) (y : Choice) (b : 
             ∙ placed-stays q (placeOf b q)
             ∙ ap (placed c r p ls q) (sym (tabulate-at (λ q. placeAfter c y (placeOf b q)) 8 q low))
 
+-- a step that rests at the resource of line l may be taken, whichever outcome a test by that line had, and makes the same before
+-- or after it
+module _ (c : Cell) (l : ℕ) (y : Choice) (b : Configuration) (idle : y (resourceOf c l) ≡ rests) where
+  gated-step : isStep c b y ≡ true → isStep c (gated c l b) y ≡ true
+  unfolding isStep mayDo gated
+  gated-step step =
+      both _ _ (all-by (λ k. mayDo c (gated c l b) k (y k)) 6 (λ k low. decide k low (ℕ-discrete k (resourceOf c l)))) (search and-right)
+    where
+      decide : (k : ℕ) → k < 6 → Dec (k ≡ resourceOf c l) → mayDo c (gated c l b) k (y k) ≡ true
+      decide k low (yes own) = rw (own, idle)
+      decide k low (no other) =
+          may-same c b (gated c l b) k (y k) (sym (getD-set-other (b .state) (resourceOf c l) k (toOf c (gateOf c l)) 0 other))
+          (all-at (λ k. mayDo c b k (y k)) 6 k (search and-left) low)
+
+  gated-after : length (b .state) ≡ 6 → resourceOf c l < 6 → after c y (gated c l b) ≡ gated c l (after c y b)
+  unfolding after gated stateAfter
+  gated-after six low =
+      join
+      (sym
+      (ap (set (tabulate 6 (λ k. stateAfter c (y k) (stateOf b k))) (resourceOf c l)) (sym ends)
+      ∙ tabulate-set (λ k. stateAfter c (y k) (stateOf b k)) (λ k. stateAfter c (y k) (stateOf (gated c l b) k)) 6 (resourceOf c l) low
+      (λ k less other. ap (stateAfter c (y k)) (getD-set-other (b .state) (resourceOf c l) k (toOf c (gateOf c l)) 0 other))))
+      refl
+    where
+      ends : stateAfter c (y (resourceOf c l)) (stateOf (gated c l b) (resourceOf c l)) ≡ toOf c (gateOf c l)
+      ends = rw idle (getD-set-same (b .state) (resourceOf c l) (toOf c (gateOf c l)) 0 (omega arith))
+
+after-six : (c : Cell) (y : Choice) (b : Configuration) → length (after c y b .state) ≡ 6
+unfolding after
+after-six c y b = length-tabulate _ 6
+
 module _
     (c : Cell) (good : checkCell c ≡ Accepted) (r : Recipe) (p : ℕ) (a : Configuration) (x : Choice) (ls : ℕ → ℕ)
     (carry : carries c r p x ls a ≡ true)
@@ -268,7 +302,8 @@ module _
       pub parted-carry : (outcome : ℕ) → ((q : ℕ) → q < 8 → placeOf a q ≤ 6) → afterCarry c r p (rest x s) ls outcome middle ≡ afterCarry c r p x ls outcome a
       unfolding afterCarry
       parted-carry outcome most =
-          ap (λ (b : Configuration). cond (eqb (kindOf r p) 1) (partsMoved c r p ls b) b) (parted-after c good a x step s closed most)
+          ap (λ (b : Configuration). cond (eqb (kindOf r p) 1) (partsMoved c r p ls b) (cond (eqb outcome 1) b (gated c (ls 0) b)))
+          (parted-after c good a x step s closed most)
 
       pub rest-carries : ((q : ℕ) → q < 8 → placeOf a q ≤ 6) → carries c r p (rest x s) ls middle ≡ true
       rest-carries most = carry-by c r p (rest x s) ls middle rest-suits (ap (noneOverfull c) (parted-carry 1 most) ∙ carry-room c r p x ls a carry)
@@ -304,40 +339,54 @@ module _
       still : (j : ℕ) → j < linesOf r p → rest x s (resourceOf c (ls j)) ≡ rests
       still j less = rest-in x s (resourceOf c (ls j)) (line-within c good r p x ls match s all j less)
 
-      pub carried-rest-step : (outcome : ℕ) → isStep c (afterCarry c r p (part x s) ls outcome a) (rest x s) ≡ true
-      unfolding afterCarry
-      carried-rest-step outcome = decide (eqb (kindOf r p) 1)
-        where
-          may : isStep c middle (rest x s) ≡ true
-          may = rest-step c good a x step s closed
+      module _ (some : 1 ≤ linesOf r p) where
+        first : ls 0 < c .count
+        unfolding serves
+        first =
+            let here : serves c r p x ls 0 ≡ true = match-at c r p x ls match 0 some in
+            ltb-true _ _ (search (and-left, and-right))
 
-          decide : (b : Bool) → isStep c (cond b (partsMoved c r p ls middle) middle) (rest x s) ≡ true
-          decide true = moved-step c r p ls (rest x s) middle may
-          decide false = may
+        pub carried-rest-step : (outcome : ℕ) → isStep c (afterCarry c r p (part x s) ls outcome a) (rest x s) ≡ true
+        unfolding afterCarry
+        carried-rest-step outcome = decide (eqb (kindOf r p) 1) (eqb outcome 1)
+          where
+            may : isStep c middle (rest x s) ≡ true
+            may = rest-step c good a x step s closed
 
-      pub carried-parted : (outcome : ℕ) → ((q : ℕ) → q < 8 → placeOf a q ≤ 6)
-          → after c (rest x s) (afterCarry c r p (part x s) ls outcome a) ≡ afterCarry c r p x ls outcome a
-      unfolding afterCarry
-      carried-parted outcome most = decide (eqb (kindOf r p) 1)
-        where
-          ends : after c (rest x s) middle ≡ after c x a
-          ends = parted-after c good a x step s closed most
+            decide : (b t : Bool) → isStep c (cond b (partsMoved c r p ls middle) (cond t middle (gated c (ls 0) middle))) (rest x s) ≡ true
+            decide true t = moved-step c r p ls (rest x s) middle may
+            decide false true = may
+            decide false false = gated-step c (ls 0) (rest x s) middle (still 0 some) may
 
-          decide : (b : Bool) → after c (rest x s) (cond b (partsMoved c r p ls middle) middle) ≡ cond b (partsMoved c r p ls (after c x a)) (after c x a)
-          decide true = moved-after c r p ls (rest x s) middle still ∙ ap (partsMoved c r p ls) ends
-          decide false = ends
+        pub carried-parted : (outcome : ℕ) → ((q : ℕ) → q < 8 → placeOf a q ≤ 6)
+            → after c (rest x s) (afterCarry c r p (part x s) ls outcome a) ≡ afterCarry c r p x ls outcome a
+        unfolding afterCarry
+        carried-parted outcome most = decide (eqb (kindOf r p) 1) (eqb outcome 1)
+          where
+            ends : after c (rest x s) middle ≡ after c x a
+            ends = parted-after c good a x step s closed most
+
+            decide :
+                (b t : Bool)
+                → after c (rest x s) (cond b (partsMoved c r p ls middle) (cond t middle (gated c (ls 0) middle)))
+                ≡ cond b (partsMoved c r p ls (after c x a)) (cond t (after c x a) (gated c (ls 0) (after c x a)))
+            decide true t = moved-after c r p ls (rest x s) middle still ∙ ap (partsMoved c r p ls) ends
+            decide false true = ends
+            decide false false =
+                gated-after c (ls 0) (rest x s) middle (still 0 some) (after-six c (part x s) a) (resources-fit c good (ls 0) first)
+                ∙ ap (gated c (ls 0)) ends
 
       abbrev carriedPart : Configuration
       carriedPart = afterCarry c r p (part x s) ls 1 a
 
       -- the part carries the point, where no station is overfull before the step
-      pub part-carries : ((q : ℕ) → q < 8 → placeOf a q ≤ 6) → noneOverfull c a ≡ true → carries c r p (part x s) ls a ≡ true
-      part-carries most before = carry-by c r p (part x s) ls a part-suits (room-by c carriedPart (λ k low. decide k low (s k) refl))
+      pub part-carries : 1 ≤ linesOf r p → ((q : ℕ) → q < 8 → placeOf a q ≤ 6) → noneOverfull c a ≡ true → carries c r p (part x s) ls a ≡ true
+      part-carries some most before = carry-by c r p (part x s) ls a part-suits (room-by c carriedPart (λ k low. decide k low (s k) refl))
         where
           decide : (k : ℕ) → k < 6 → (b : Bool) → s k ≡ b → load (carriedPart .place) k ≤ getD (c .limits) k 0
           decide k low true e =
               let grown = rest-load c (rest x s) carriedPart k (rest-in x s k e) in
-              let same = ap (λ (d : Configuration). load (d .place) k) (carried-parted 1 most) in
+              let same = ap (λ (d : Configuration). load (d .place) k) (carried-parted some 1 most) in
               let room = room-at c _ (carry-room c r p x ls a carry) k low in
               omega (arith, grown, same, room)
           decide k low false e =

@@ -25,7 +25,7 @@ use Rattle.steps.specs.Limits.{noneOverfull}
 use Rattle.steps.specs.Entry.{entryKind, letter, isFormed}
 use Rattle.steps.specs.Effect.{Effect, shut, silent, carried, ended, effect}
 use Rattle.steps.proofs.Effects.{read-silent, read-carried, formed-kind}
-use Rattle.steps.proofs.EntryForms.{formed-internal, formed-transfer, formed-carry}
+use Rattle.steps.proofs.EntryForms.{carryEntry, formed-internal, formed-transfer, formed-carry}
 use Rattle.simulation.specs.Simulation.{Position}
 use Rattle.simulation.proofs.NumberedPositions.{by-number}
 
@@ -56,7 +56,7 @@ unfoldable pub movesStaged : Cell → Recipe → Sizes → List ℕ → ℕ → 
 movesStaged c r z stages p a =
     allBelow (λ l. staysStaged c r z stages p a (16777216 + l)) (c .count)
     && (allBelow (λ l. allBelow (λ m. staysStaged c r z stages p a (33554432 + l + 64 * m)) (c .count)) (c .count)
-    && allBelow (λ l. staysStaged c r z stages p a (50331648 + l)) (c .count))
+    && allBelow (λ l. staysStaged c r z stages p a (carryEntry c r p l)) (c .count))
 
 unfoldable pub positionStaged : Cell → Recipe → Sizes → List ℕ → ℕ → Configuration → Bool
 positionStaged c r z stages p a =
@@ -106,7 +106,7 @@ module _ (c : Cell) (r : Recipe) (z : Sizes) (stages : List ℕ) (p : ℕ) (a : 
       carry-test kind =
           let at = formed-carry c r p e formed one kind in
           rw (at .1)
-          (all-at (λ l. staysStaged c r z stages p a (50331648 + l)) (c .count) (letter e 0) (search (and-left, and-right)) (at .0))
+          (all-at (λ l. staysStaged c r z stages p a (carryEntry c r p l)) (c .count) (letter e 0) (search (and-left, and-right)) (at .0))
 
   tested : positionStaged c r z stages p a ≡ true → noneOverfull c a ≡ true → 0 < stageOf z stages p a → Staged c r z stages p a
   unfolding positionStaged staysStaged keepsStage

@@ -20,11 +20,11 @@ use Rattle.positions.specs.declared.Sizes.{Sizes}
 use Rattle.positions.specs.Checked.{Checked}
 use Rattle.steps.specs.Lines.{actOf, argOf, stateOf, placeOf, kindOf, thenOf, elseOf}
 use Rattle.steps.specs.Limits.{noneOverfull}
-use Rattle.steps.specs.Joint.{Choice, rests, takes, acts, actsOn, isStep, isSilent, isSilentStep, stateAfter, handed, placeAfter, after}
+use Rattle.steps.specs.Joint.{Choice, rests, takes, mayDo, acts, actsOn, isStep, isSilent, isSilentStep, stateAfter, handed, placeAfter, after}
 use Rattle.steps.specs.Carry.{carries, afterCarry}
 use Rattle.steps.specs.Effect.{silent, carried, effect}
 use Rattle.steps.proofs.PointLines.{PointLines, point-lines}
-use Rattle.steps.proofs.ReadyLines.{may-low, step-may}
+use Rattle.steps.proofs.ReadyLines.{may-low, may-act, step-may}
 use Rattle.steps.proofs.StationLoads.{silent-steps, silent-quiet, silent-room, silent-by}
 use Rattle.steps.proofs.SilentEntries.{internal-entry, transfer-entry}
 use Rattle.steps.proofs.CarryEntries.{CarryFor, carry-entry}
@@ -262,7 +262,9 @@ module _ (c : Cell) (r : Recipe) (p : ℕ) (z : Sizes) (K : Checked c r z) (some
       decide : Splits n → (u : ℕ) → x n ≡ u → Singly c r p a (after c x a)
       decide earlier zero e = earlier x (onward x e (λ k z. z)) step none room
       decide earlier (suc l) e =
-          by-act earlier l e (actOf c l) refl (line-in-range c (each-accepts c ok .fourth) l (may-low c a n l (step-may c a x n l step low e)) .act)
+          let may : mayDo c a n (takes l) ≡ true = step-may c a x n l step low e in
+          let no-gate : actOf c l ≡ 4 → ⊥ = may-act c a n l may in
+          by-act earlier l e (actOf c l) refl (omega (arith, line-in-range c (each-accepts c ok .fourth) l (may-low c a n l may) .act))
 
   -- a silent joint step is a path of single moves
   pub silent-split : (x : Choice) → isSilentStep c a x ≡ true → Singly c r p a (after c x a)
@@ -337,7 +339,7 @@ module _
         let left : carries c r p (rest x s) ls b ≡ true = rest-carries c ok r p a x ls carrying s closed none most in
         let alone : (k l : ℕ) → k < 6 → rest x s k ≡ takes l → actOf c l ≡ 1 = λ k l low chosen. calm-rest c x k l chosen in
         let entry : CarryFor c r p b (afterCarry c r p (rest x s) ls 1 b) (afterCarry c r p (rest x s) ls 0 b) =
-        carry-entry c r p b (rest x s) ls ok left (lines .few) alone (mid .six) (mid .eight) (position-places c r z K p b mid) in
+        carry-entry c r p b (rest x s) ls ok left lines alone (mid .six) (mid .eight) (position-places c r z K p b mid) in
         let same : (outcome : ℕ) → afterCarry c r p (rest x s) ls outcome b ≡ afterCarry c r p x ls outcome a =
         λ outcome. parted-carry c ok r p a x ls carrying s closed none outcome most in
         record { before = b; singly = path; carry = record { entry = entry .entry; does = entry .does ∙ (λ i. carried (same 1 i) (same 0 i)) } }

@@ -2,23 +2,27 @@
 -- steps, and makes the same by them.
 -- Assumes nothing.
 use mathlib.Core.Path.{_≡_, refl, sym, ap, _∙_}
-use mathlib.Core.Bool.{true, not}
+use mathlib.Core.Bool.{true, false, not, true≢false}
 use Prim.Native.Nat.{ℕ, zero, suc, _<_, _≤_}
 use native.Mathlib.Omega.{arith}
 use lib.Dec.{eqb}
-use borrow.Author.Tests.{ltb-true, lt-ltb, eq-eqb, ne-eqb, not-true}
+use borrow.Author.Tests.{eqb-true, ltb-true, lt-ltb, eq-eqb, ne-eqb, not-true}
+use Rattle.refusals.specs.declared.Verdict.the-variants.{Accepted}
 use Rattle.refusals.specs.Search.{allBelow}
 use Rattle.refusals.proofs.EveryBelow.{all-by, any-none, any-not}
 use Rattle.refusals.proofs.Verdicts.{and-left, and-right}
 use Rattle.cell.specs.declared.Cell.{Cell}
+use Rattle.cell.specs.Rules.{alike, checkCell}
 use Rattle.recipe.specs.declared.Recipe.{Recipe}
 use Rattle.positions.specs.declared.Configuration.{Configuration}
 use Rattle.steps.specs.Lines.{resourceOf, fromOf, actOf, argOf, toOf, placeOf, linesOf, opOf}
 use Rattle.steps.specs.Limits.{noneOverfull}
+use Rattle.steps.specs.Gates.{gateOf, gated}
 use Rattle.steps.specs.Joint.{Choice, rests, takes, mayDo, acts, actsOn, isStep, isSilent}
 use Rattle.steps.specs.Joint.{stateAfter, handed, after, isSilentStep}
 use Rattle.steps.specs.Carry.{serves, matches, present, suits, afterCarry, carries}
 use Rattle.steps.proofs.ReadyLines.{both, may-low, step-may}
+use Rattle.steps.proofs.GateLines.{isGate, by-gate, gates-one}
 use Rattle.steps.proofs.CarryLines.{suiting, match-at, taken-at, match-count, match-apart}
 use Rattle.steps.proofs.EqualChoices.{Alike, step-agrees, after-agrees, acts-agree, present-agrees, after-carry-agrees}
 use Rattle.steps.proofs.StationLoads.{silent-steps, silent-quiet, silent-room, silent-by, carry-suits, carry-room, carry-by}
@@ -33,8 +37,8 @@ pub record AddedOperations (c d : Cell) : Type 0 where
   pub same-arg : (l : ℕ) → l < c .count → argOf d (at l) ≡ argOf c l
   pub same-to : (l : ℕ) → l < c .count → toOf d (at l) ≡ toOf c l
   pub same-limits : d .limits ≡ c .limits
-  -- line m of d, unless it is an operation, is one of c's: the laws are said of operations alone, since an added line of another act
-  -- could shut steps one day; today's proofs do without
+  -- line m of d, unless it is an operation, is one of c's: the laws are said of operations alone, since an added gate would change what
+  -- a test makes
   pub others : (m : ℕ) → m < d .count → (actOf d m ≡ 1 → ⊥) → (l : ℕ) × ((l < c .count) × (at l ≡ m))
 
 -- what a resource does, the line that it takes under its new number
@@ -71,12 +75,65 @@ module _ (c d : Cell) (added : AddedOperations c d) where
               lt-ltb l (c .count) low,
               added .same-resource l low,
               added .same-from l low,
+              added .same-act l low,
             );
         acting = λ act. rw (added .same-act l low);
         acting-on = λ act port. rw (added .same-act l low, added .same-arg l low);
         state = λ s. sym (added .same-to l low);
         hands = λ x y takers k. rw (added .same-act l low, added .same-arg l low, takers (argOf c l));
       }
+
+  -- the lines of c that are gates of a line are gates of it in d
+  gates-kept : (l g : ℕ) → l < c .count → g < c .count → isGate d (added .at l) (added .at g) ≡ isGate c l g
+  unfolding alike
+  gates-kept l g low below =
+      rw (
+        added .same-act g below,
+        added .same-resource g below,
+        added .same-resource l low,
+        added .same-from g below,
+        added .same-from l low,
+        added .same-arg g below,
+        added .same-arg l low,
+      )
+
+  -- and there are no others
+  gates-own : (l m : ℕ) → l < c .count → m < d .count → isGate d (added .at l) m ≡ true → (g : ℕ) × ((g < c .count) × ((added .at g ≡ m) × (isGate c l g ≡ true)))
+  unfolding alike
+  gates-own l m low below gate =
+      let act : actOf d m ≡ 4 = eqb-true _ _ (search and-left) in
+      let own = added .others m below (λ (z : actOf d m ≡ 1). omega arith) in
+      let same : isGate d (added .at l) (added .at (own .0)) ≡ true = rw (own .1 .1) gate in
+      (own .0, (own .1 .0, (own .1 .1, sym (gates-kept l (own .0) low (own .1 .0)) ∙ same)))
+
+  -- so outcome 0 ends in the same state
+  gates-same : checkCell c ≡ Accepted → (l : ℕ) → l < c .count → toOf c (gateOf c l) ≡ toOf d (gateOf d (added .at l))
+  gates-same ok l low =
+      by-gate c l (λ g. toOf c g ≡ toOf d (gateOf d (added .at l)))
+      (λ g below gate. by-gate d (added .at l) (λ m. toOf c g ≡ toOf d m)
+      (λ m there is. found g below gate m (gates-own l m low there is))
+      (λ none. absurd
+      (true≢false (sym (gates-kept l g low below ∙ gate) ∙ none (added .at g) (added .there g below)))))
+      (λ none. by-gate d (added .at l) (λ m. toOf c l ≡ toOf d m)
+      (λ m there is. lacks none (gates-own l m low there is))
+      (λ none. sym (added .same-to l low)))
+    where
+      found :
+          (g : ℕ)
+          → g < c .count
+          → isGate c l g ≡ true
+          → (m : ℕ)
+          → (h : ℕ) × ((h < c .count) × ((added .at h ≡ m) × (isGate c l h ≡ true)))
+          → toOf c g ≡ toOf d m
+      found g below gate m (h, (there, (at, is))) =
+          ap (toOf c) (gates-one c ok l g h below there gate is) ∙ sym (added .same-to h there) ∙ ap (toOf d) at
+
+      lacks :
+          ((g : ℕ) → g < c .count → isGate c l g ≡ false)
+          → {m : ℕ}
+          → (h : ℕ) × ((h < c .count) × ((added .at h ≡ m) × (isGate c l h ≡ true)))
+          → toOf c l ≡ toOf d m
+      lacks none (h, (there, (at, is))) = absurd (true≢false (sym is ∙ none h there))
 
   -- no station of the one cell is overfull where none of the other is
   pub added-room : (a : Configuration) → noneOverfull d a ≡ noneOverfull c a
@@ -180,17 +237,26 @@ module _ (c d : Cell) (added : AddedOperations c d) where
         search (both, and-left, and-right)
 
     module _ (most : (q : ℕ) → q < 8 → placeOf a q ≤ 6) where
-      -- a step of the one cell that carries a point makes the same in the other
-      pub added-after-carry :
-          (outcome : ℕ)
-          → afterCarry d r p (moved (added .at) x) (λ j. added .at (ls j)) outcome a ≡ afterCarry c r p x ls outcome a
-      added-after-carry outcome =
-          sym
-          (after-carry-agrees c d r p ls (λ j. added .at (ls j)) (resources-there r p ls x match) x (moved (added .at) x) outcome a
-          (sym (added-after x a most step)))
+      module _ (ok : checkCell c ≡ Accepted) (some : 1 ≤ linesOf r p) where
+        gated-there : (b : Configuration) → gated c (ls 0) b ≡ gated d (added .at (ls 0)) b
+        unfolding gated
+        gated-there b = rw (added .same-resource (ls 0) own, gates-same ok (ls 0) own)
+          where
+            own : ls 0 < c .count
+            own = served-own r p ls x match 0 some
 
-      -- and carries the point there
-      pub added-carries : carries d r p (moved (added .at) x) (λ j. added .at (ls j)) a ≡ true
-      added-carries =
-          carry-by d r p (moved (added .at) x) (λ j. added .at (ls j)) a suits-there
-          (ap (noneOverfull d) (added-after-carry 1) ∙ added-room (afterCarry c r p x ls 1 a) ∙ carry-room c r p x ls a all)
+        -- a step of the one cell that carries a point makes the same in the other
+        pub added-after-carry :
+            (outcome : ℕ)
+            → afterCarry d r p (moved (added .at) x) (λ j. added .at (ls j)) outcome a ≡ afterCarry c r p x ls outcome a
+        added-after-carry outcome =
+            sym
+            (after-carry-agrees c d r p ls (λ j. added .at (ls j)) (resources-there r p ls x match) x (moved (added .at) x) outcome a
+            gated-there
+            (sym (added-after x a most step)))
+
+        -- and carries the point there
+        pub added-carries : carries d r p (moved (added .at) x) (λ j. added .at (ls j)) a ≡ true
+        added-carries =
+            carry-by d r p (moved (added .at) x) (λ j. added .at (ls j)) a suits-there
+            (ap (noneOverfull d) (added-after-carry 1) ∙ added-room (afterCarry c r p x ls 1 a) ∙ carry-room c r p x ls a all)

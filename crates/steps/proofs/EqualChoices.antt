@@ -15,6 +15,7 @@ use Rattle.cell.specs.declared.Cell.{Cell}
 use Rattle.recipe.specs.declared.Recipe.{Recipe}
 use Rattle.positions.specs.declared.Configuration.{Configuration}
 use Rattle.steps.specs.Lines.{resourceOf, argOf, stateOf, placeOf, firstLineOf, linesOf, lineOf, isTaken}
+use Rattle.steps.specs.Gates.{gated}
 use Rattle.steps.specs.Joint.{Choice, mayDo, acts, actsOn, howMany, portFits, isStep, stateAfter, receiver, handed, placeAfter, after}
 use Rattle.steps.specs.Carry.{serves, matches, standsAt, present, suits, putThere, placed, partsMoved, afterCarry}
 use Rattle.steps.specs.Entry.{only}
@@ -114,10 +115,11 @@ module _
 
     pub after-carry-agrees :
         (x y : Choice) (outcome : ℕ) (a : Configuration)
+        → ((b : Configuration) → gated c (ls 0) b ≡ gated d (ms 0) b)
         → after c x a ≡ after d y a
         → afterCarry c r p x ls outcome a ≡ afterCarry d r p y ms outcome a
     unfolding afterCarry
-    after-carry-agrees x y outcome a made = rw (made, parts-agree (after d y a))
+    after-carry-agrees x y outcome a gates made = rw (made, parts-agree (after d y a), gates (after d y a))
 
 -- the same lines carry the same points
 module _

@@ -12,6 +12,7 @@ pub mod MadeByKind
 pub mod PointLines
 pub mod OnlyLines
 pub mod ReadyLines
+pub mod GateLines
 pub mod PortCounts
 pub mod SilentLines
 pub mod CarryLines

@@ -1,5 +1,6 @@
 pub mod Lines
 pub mod Limits
+pub mod Gates
 pub mod Joint
 pub mod Carry
 pub mod Entry

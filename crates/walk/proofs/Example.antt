@@ -28,9 +28,10 @@ use Rattle.positions.specs.Position.{start, stateNumber, placeNumber, positionO
 use Rattle.positions.specs.Rules.{checkRecords, recordRules, rule13, rule14, placeCount, isPosition, rule16, placeFits, stateFits}
 use Rattle.steps.specs.Lines.{firstLineOf, linesOf, kindOf, thenOf, elseOf, isTaken, isGiven}
 use Rattle.steps.specs.Limits.{load, keepsLimits, noneOverfull}
+use Rattle.steps.specs.Gates.{gateAmong, gateOf, gated}
 use Rattle.steps.specs.Joint.{mayDo, acts, actsOn, howMany, portFits, isStep, isSilentStep, stateAfter, receiver, handed, placeAfter, after, isSilent}
 use Rattle.steps.specs.Carry.{serves, matches, standsAt, present, free, suits, carries, putThere, placed, partsMoved, afterCarry, isFree}
-use Rattle.steps.specs.Entry.{entryKind, letter, unused, lettersUsed, isLine, isFormed, only, stepOf, mayBeTaken}
+use Rattle.steps.specs.Entry.{entryKind, letter, unused, linesUsed, carryLetters, lettersUsed, namesGate, isLine, isFormed, only, stepOf, mayBeTaken}
 use Rattle.steps.specs.Effect.{taken, effect, isMove, opens, leaves, makes, leadsTo}
 use Rattle.run.specs.declared.Run.{Run}
 use Rattle.run.specs.Calls.{tableRules, freshRun, entryAt, entryRules, moveRules, reportRules, rule17, rule18, rule19, nextMove, nextRun, reportOf}
@@ -80,12 +81,12 @@ module _ (c : Cell) (r : Recipe) (planned other : List ℕ) (both : rule14 (size
 abbrev pub outcomes : List ℕ
 outcomes = 48 ∷ 48 ∷ 49 ∷ 48 ∷ []
 
--- the lines below the first one: `0,50331648,22` `22,33554561,26` `26,50331651,50` `50,50331652,72`
+-- the lines below the first one: `0,50331648,22` `22,33554561,26` `26,50331843,50` `50,50331652,72`
 abbrev pub fourMoves : List ℕ
 fourMoves =
     48 ∷ 44 ∷ 53 ∷ 48 ∷ 51 ∷ 51 ∷ 49 ∷ 54 ∷ 52 ∷ 56 ∷ 44 ∷ 50 ∷ 50 ∷ 10
     ∷ 50 ∷ 50 ∷ 44 ∷ 51 ∷ 51 ∷ 53 ∷ 53 ∷ 52 ∷ 53 ∷ 54 ∷ 49 ∷ 44 ∷ 50 ∷ 54 ∷ 10
-    ∷ 50 ∷ 54 ∷ 44 ∷ 53 ∷ 48 ∷ 51 ∷ 51 ∷ 49 ∷ 54 ∷ 53 ∷ 49 ∷ 44 ∷ 53 ∷ 48 ∷ 10
+    ∷ 50 ∷ 54 ∷ 44 ∷ 53 ∷ 48 ∷ 51 ∷ 51 ∷ 49 ∷ 56 ∷ 52 ∷ 51 ∷ 44 ∷ 53 ∷ 48 ∷ 10
     ∷ 53 ∷ 48 ∷ 44 ∷ 53 ∷ 48 ∷ 51 ∷ 51 ∷ 49 ∷ 54 ∷ 53 ∷ 50 ∷ 44 ∷ 55 ∷ 50 ∷ 10 ∷ []
 
 -- what is computed: the lines of the bench example's own table, and at which entries they are found
@@ -99,23 +100,23 @@ record Computed : Type 0 where
       (planned : List ℕ)
       → getD planned 0 0 ≡ 50331648
       → getD planned 22 0 ≡ 33554561
-      → getD planned 26 0 ≡ 50331651
+      → getD planned 26 0 ≡ 50331843
       → getD planned 50 0 ≡ 50331652
       → Along benchCell benchRecipe planned benchTable freshRun outcomes
 
 computed : Computed
 unfolding isOf firstBelow anyBelow allBelow countBelow greatestBelow tabulate firstRefusal firstLine noLine rule3 cell.leavesRange
     cell.rule4 cell.greatestResource cell.rule5 cell.otherAct cell.partner cell.unpaired cell.limitInRange cell.limitLeavesRange
-    cell.rule4Limits cell.rule6 cell.limitsAbsent cell.rule20 cell.cellRules recipe.leavesRange recipe.rule4 recipe.breaksOrder recipe.rule7
+    cell.rule4Limits cell.rule6 cell.limitsAbsent cell.rule20 cell.alike cell.stray cell.rule23 cell.cellRules recipe.leavesRange recipe.rule4 recipe.breaksOrder recipe.rule7
     recipe.clashes recipe.breaksRepeat recipe.rule8 recipe.breaksUnused recipe.rule9 recipe.lacksParts recipe.rule10 recipe.holdsPart
     recipe.common recipe.sharesPart recipe.rule11 recipe.pointCount recipe.leadsOut recipe.rule12 recipe.recipeRules sumBelow productBelow
     stateCount stateCounts partsIn partCount jointCount sizesFor start stateNumber placeNumber positionOf checkRecords recordRules rule13
     rule14 placeCount isPosition rule16 firstLineOf linesOf kindOf thenOf elseOf isTaken isGiven freshRun entryOf tableRules entryRules
     moveRules reportRules rule17 rule18 rule19 nextMove nextRun reportOf filled benchCell benchRecipe benchEntry benchTable isDigit
     ifAccepted lastDigit digitsOf field moveLine digits row cellFile recipeWith recipeFile cellNames recipeNames numbered positionIn
-    reported told printed Along mayDo acts actsOn howMany portFits isStep isSilentStep load keepsLimits noneOverfull suits stateAfter
+    reported told printed Along mayDo acts actsOn howMany portFits isStep isSilentStep load keepsLimits noneOverfull gateAmong gateOf gated suits stateAfter
     receiver handed placeAfter after serves matches standsAt present free carries putThere placed partsMoved afterCarry entryKind letter
-    unused lettersUsed isLine isFormed only stepOf mayBeTaken taken effect isMove opens leaves makes leadsTo cell.inRange cell.gap
+    unused linesUsed carryLetters lettersUsed namesGate isLine isFormed only stepOf mayBeTaken taken effect isMove opens leaves makes leadsTo cell.inRange cell.gap
     cell.hasNoLine recipe.inRange recipe.hasUnused farthest stateWeight stateFits placeFits isSilent isFree lineVerdict
 computed =
     record {

@@ -32,11 +32,13 @@ use Rattle.positions.proofs.CheckedSizes.{checked-fits, sizes-checked}
 use Rattle.positions.proofs.PositionNumbers.{position-lt}
 use Rattle.steps.specs.Lines.{firstLineOf, linesOf, kindOf, thenOf, elseOf, isTaken, isGiven}
 use Rattle.steps.specs.Limits.{load, keepsLimits, noneOverfull}
+use Rattle.steps.specs.Gates.{gateAmong, gateOf, gated}
 use Rattle.steps.specs.Joint.{mayDo, acts, actsOn, howMany, portFits, isStep, isSilentStep, stateAfter, receiver, handed, placeAfter, after, isSilent}
 use Rattle.steps.specs.Carry.{serves, matches, standsAt, present, free, suits, carries, putThere, placed, partsMoved, afterCarry, isFree}
-use Rattle.steps.specs.Entry.{entryKind, letter, unused, lettersUsed, isLine, isFormed, only, stepOf, mayBeTaken}
+use Rattle.steps.specs.Entry.{entryKind, letter, unused, linesUsed, carryLetters, lettersUsed, namesGate, isLine, isFormed, only, stepOf, mayBeTaken}
 use Rattle.steps.specs.Effect.{taken, effect, isMove, opens, leaves, makes, leadsTo}
 use Rattle.steps.proofs.StationLoads.{all-kept}
+use Rattle.steps.proofs.EntryForms.{carryEntry}
 use Rattle.simulation.specs.Simulation.{Position, Set, Greatest, Realisable}
 use Rattle.simulation.specs.Plan.{Planned}
 use Rattle.simulation.proofs.Machine.{Lost}
@@ -89,16 +91,16 @@ pub record Computed : Type 0 where
 pub computed : Computed
 unfolding isOf firstBelow anyBelow allBelow countBelow greatestBelow tabulate firstRefusal firstLine noLine rule3 cell.leavesRange
     cell.rule4 cell.greatestResource cell.rule5 cell.otherAct cell.partner cell.unpaired cell.limitInRange cell.limitLeavesRange
-    cell.rule4Limits cell.rule6 cell.limitsAbsent cell.rule20 cell.cellRules cell.checkCell recipe.leavesRange recipe.rule4
+    cell.rule4Limits cell.rule6 cell.limitsAbsent cell.rule20 cell.alike cell.stray cell.rule23 cell.cellRules cell.checkCell recipe.leavesRange recipe.rule4
     recipe.breaksOrder recipe.rule7 recipe.clashes recipe.breaksRepeat recipe.rule8 recipe.breaksUnused recipe.rule9 recipe.lacksParts
     recipe.rule10 recipe.holdsPart recipe.common recipe.sharesPart recipe.rule11 recipe.pointCount recipe.leadsOut recipe.rule12
     recipe.recipeRules recipe.checkRecipe sumBelow productBelow stateCount stateCounts partsIn partCount jointCount sizesFor start
     stateNumber placeNumber positionOf stateWeight pointAt stateAt placeAt configurationAt recordRules rule13 checkSizes placeCount
     isPosition firstLineOf linesOf kindOf thenOf elseOf isTaken isGiven entryOf rankOf hasEntry leadsOn closedAt isClosed stageOf noMore
-    lower keepsStage staysStaged movesStaged positionStaged areStages filled benchCell benchRecipe benchEntry benchTable benchRanks
-    benchStages deadRecipe deadStages endRecipe mayDo acts actsOn howMany portFits isStep isSilentStep load keepsLimits noneOverfull suits
+    lower keepsStage staysStaged movesStaged carryEntry positionStaged areStages filled benchCell benchRecipe benchEntry benchTable benchRanks
+    benchStages deadRecipe deadStages endRecipe mayDo acts actsOn howMany portFits isStep isSilentStep load keepsLimits noneOverfull gateAmong gateOf gated suits
     stateAfter receiver handed placeAfter after serves matches standsAt present free carries putThere placed partsMoved afterCarry entryKind
-    letter unused lettersUsed isLine isFormed only stepOf mayBeTaken taken effect isMove opens leaves makes leadsTo cell.inRange cell.gap
+    letter unused linesUsed carryLetters lettersUsed namesGate isLine isFormed only stepOf mayBeTaken taken effect isMove opens leaves makes leadsTo cell.inRange cell.gap
     cell.hasNoLine recipe.inRange recipe.hasUnused farthest stateFits placeFits isSilent isFree lineVerdict
 computed =
     record {

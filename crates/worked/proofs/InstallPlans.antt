@@ -20,10 +20,12 @@ use Rattle.positions.specs.Position.{start, stateNumber, placeNumber, positionO
 use Rattle.positions.specs.Rules.{recordRules, rule13, checkSizes}
 use Rattle.steps.specs.Lines.{firstLineOf, linesOf, kindOf, thenOf, elseOf, isTaken, isGiven}
 use Rattle.steps.specs.Limits.{load, keepsLimits, noneOverfull}
+use Rattle.steps.specs.Gates.{gateAmong, gateOf, gated}
 use Rattle.steps.specs.Joint.{mayDo, acts, actsOn, howMany, portFits, isStep, isSilentStep, stateAfter, receiver, handed, placeAfter, after, isSilent}
 use Rattle.steps.specs.Carry.{serves, matches, standsAt, present, free, suits, carries, putThere, placed, partsMoved, afterCarry, isFree}
-use Rattle.steps.specs.Entry.{entryKind, letter, unused, lettersUsed, isLine, isFormed, only, stepOf, mayBeTaken}
+use Rattle.steps.specs.Entry.{entryKind, letter, unused, linesUsed, carryLetters, lettersUsed, namesGate, isLine, isFormed, only, stepOf, mayBeTaken}
 use Rattle.steps.specs.Effect.{taken, effect, leadsTo}
+use Rattle.steps.proofs.EntryForms.{carryEntry}
 use Rattle.simulation.specs.Simulation.{Realisable}
 use Rattle.simulation.proofs.ClosedTableTest.{rankOf, hasEntry, leadsOn, closedAt, isClosed}
 use Rattle.simulation.proofs.StageTest.{stageOf, noMore, lower, keepsStage, staysStaged, movesStaged, positionStaged, areStages}
@@ -101,20 +103,20 @@ pub record Computed : Type 0 where
 pub computed : Computed
 unfolding isOf firstBelow anyBelow allBelow countBelow greatestBelow tabulate firstRefusal firstLine noLine rule3 cell.leavesRange
     cell.rule4 cell.greatestResource cell.rule5 cell.otherAct cell.partner cell.unpaired cell.limitInRange cell.limitLeavesRange
-    cell.rule4Limits cell.rule6 cell.limitsAbsent cell.rule20 cell.cellRules recipe.leavesRange recipe.rule4 recipe.breaksOrder
+    cell.rule4Limits cell.rule6 cell.limitsAbsent cell.rule20 cell.alike cell.stray cell.rule23 cell.cellRules recipe.leavesRange recipe.rule4 recipe.breaksOrder
     recipe.rule7 recipe.clashes recipe.breaksRepeat recipe.rule8 recipe.breaksUnused recipe.rule9 recipe.lacksParts recipe.rule10
     recipe.holdsPart recipe.common recipe.sharesPart recipe.rule11 recipe.pointCount recipe.leadsOut recipe.rule12 recipe.recipeRules
     sumBelow productBelow stateCount stateCounts partsIn partCount jointCount sizesFor start stateNumber placeNumber positionOf
     stateWeight pointAt stateAt placeAt configurationAt recordRules rule13 checkSizes firstLineOf linesOf kindOf thenOf elseOf isTaken
-    isGiven entryOf rankOf hasEntry leadsOn closedAt isClosed stageOf noMore lower keepsStage staysStaged movesStaged positionStaged
+    isGiven entryOf rankOf hasEntry leadsOn closedAt isClosed stageOf noMore lower keepsStage staysStaged movesStaged carryEntry positionStaged
     areStages linesPass candidatesPass isAccounted isOperation isThere isInCell hasState namesAt isNamed isCandidate isAmong comesBefore
     isFirst rises every otherTested otherFed otherTurned otherSingle filled oneLine benchRecipe untestedCell unfedCell linesDoing
     without otherFeeding otherTesting otherEnding allOthers idleFeeding idleBehind testingLines feedingLines turnedCell turnedRecipe
     turningLines otherTurning singleCell singleRecipe singleLines fullCell sameLine withLine withLines testingTable feedingTable
     handRanks feedingStages testingStages endingStages togetherTable idleStages firstStages stayingTable leavingTable turnedStages
-    singleTable mayDo acts actsOn howMany portFits isStep isSilentStep load keepsLimits noneOverfull suits stateAfter receiver handed
+    singleTable mayDo acts actsOn howMany portFits isStep isSilentStep load keepsLimits noneOverfull gateAmong gateOf gated suits stateAfter receiver handed
     placeAfter after serves matches standsAt present free carries putThere placed partsMoved afterCarry entryKind letter unused
-    lettersUsed isLine isFormed only stepOf mayBeTaken taken effect leadsTo cell.inRange cell.gap cell.hasNoLine recipe.inRange
+    linesUsed carryLetters lettersUsed namesGate isLine isFormed only stepOf mayBeTaken taken effect leadsTo cell.inRange cell.gap cell.hasNoLine recipe.inRange
     recipe.hasUnused farthest isSilent isFree lineVerdict
 computed =
     record {

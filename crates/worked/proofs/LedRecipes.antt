@@ -10,6 +10,7 @@ use Rattle.worked.specs.Moves.{filled, benchRecipe, limitRecipe}
 use Rattle.worked.specs.Plans.{deadRecipe, endRecipe}
 use Rattle.worked.specs.Limited.{glueRecipe, mendRecipe, nestRecipe}
 use Rattle.worked.specs.Installed.{turnedRecipe, singleRecipe}
+use Rattle.worked.specs.Gated.{againRecipe}
 
 pub record LedRecipes : Type 0 where
   pub bench : rule22 benchRecipe ≡ Accepted
@@ -20,11 +21,12 @@ pub record LedRecipes : Type 0 where
   pub mend : rule22 mendRecipe ≡ Accepted
   pub nest : rule22 nestRecipe ≡ Accepted
   pub turned : rule22 turnedRecipe ≡ Accepted
+  pub again : rule22 againRecipe ≡ Accepted
   pub single : (operation : ℕ) → rule22 (singleRecipe operation) ≡ Accepted
 
 pub led-recipes : LedRecipes
 unfolding isOf anyBelow countBelow tabulate noLine pointCount leads lineLeads leadsOn chained isReached rule22 filled benchRecipe deadRecipe
-    endRecipe limitRecipe glueRecipe mendRecipe nestRecipe turnedRecipe singleRecipe
+    endRecipe limitRecipe glueRecipe mendRecipe nestRecipe turnedRecipe singleRecipe againRecipe
 led-recipes =
     record {
       bench = refl;
@@ -35,5 +37,6 @@ led-recipes =
       mend = refl;
       nest = refl;
       turned = refl;
+      again = refl;
       single = λ operation. refl;
     }

@@ -2,7 +2,7 @@
 -- Then those of request 1, with a table of their own: records and files with limits, plans of cells with limits, stored tables. And
 -- those of request 2: cells that lack an operation line, the lines that mend them, and the answers of install calls. And those of
 -- request 3: scratches of so many bytes. And those of request 4: points that nothing leads to. And those of request 5: where the
--- search for marks ends.
+-- search for marks ends. And those of request 6: records, moves and plans with reject gates.
 mod Certificates
 mod LedRecipes
 mod LentLengths
@@ -33,3 +33,8 @@ mod UnreachedCalls
 mod StoredRun
 pub mod UnreachedTable
 pub mod SearchTable
+mod GateRecords
+mod GateMoves
+mod GatePlans
+mod GateCalls
+pub mod GateTable

@@ -19,7 +19,7 @@ pub record Limit : Type 0 where
 pub limit : Limit
 unfolding isOf firstBelow anyBelow countBelow greatestBelow tabulate firstRefusal firstLine noLine rule3 cell.leavesRange cell.rule4
     cell.greatestResource cell.rule5 cell.otherAct cell.partner cell.unpaired cell.limitInRange cell.limitLeavesRange cell.rule4Limits
-    cell.rule6 cell.limitsAbsent cell.rule20 cell.cellRules recipe.leavesRange recipe.rule4 recipe.breaksOrder recipe.rule7 recipe.clashes
+    cell.rule6 cell.limitsAbsent cell.rule20 cell.alike cell.stray cell.rule23 cell.cellRules recipe.leavesRange recipe.rule4 recipe.breaksOrder recipe.rule7 recipe.clashes
     recipe.breaksRepeat recipe.rule8 recipe.breaksUnused recipe.rule9 recipe.lacksParts recipe.rule10 recipe.holdsPart recipe.common
     recipe.sharesPart recipe.rule11 recipe.pointCount recipe.leadsOut recipe.rule12 recipe.recipeRules productBelow stateCount stateCounts
     partsIn partCount jointCount sizesFor recordRules rule13 checkSizes filled limitCell limitRecipe cell.inRange cell.gap cell.hasNoLine

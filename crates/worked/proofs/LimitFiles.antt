@@ -53,7 +53,7 @@ pub limit-files : LimitFiles
 unfolding isOf firstBelow anyBelow countBelow greatestBelow tabulate firstRefusal firstLine noLine ifAccepted rule3 lengthened parted lines
     valueLines shownLine extent isDigit every isNumber decimal isRow starts rule1 firstBroken isBroken rule2 numberAt column
     cell.leavesRange cell.rule4 cell.greatestResource cell.rule5 cell.otherAct cell.partner cell.unpaired cell.limitInRange
-    cell.limitLeavesRange cell.rule4Limits cell.rule6 cell.limitsAbsent cell.rule20 cell.cellRules cell.checkCell cellNames cellOf judgeCell
+    cell.limitLeavesRange cell.rule4Limits cell.rule6 cell.limitsAbsent cell.rule20 cell.alike cell.stray cell.rule23 cell.cellRules cell.checkCell cellNames cellOf judgeCell
     readCell recipe.leavesRange recipe.rule4 recipe.breaksOrder recipe.rule7 recipe.clashes recipe.breaksRepeat recipe.rule8
     recipe.breaksUnused recipe.rule9 recipe.lacksParts recipe.rule10 recipe.holdsPart recipe.common recipe.sharesPart recipe.rule11
     recipe.pointCount recipe.leadsOut recipe.rule12 recipe.recipeRules recipeNames recipeOf judgeRecipe readRecipe limits.limitsNames

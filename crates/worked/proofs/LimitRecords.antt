@@ -5,7 +5,7 @@ use Rattle.refusals.specs.declared.Refusal.the-variants.{Range, ResourceGap, No
 use Rattle.refusals.specs.Search.{firstBelow, anyBelow, greatestBelow, isOf}
 use Rattle.refusals.specs.Verdict.{firstRefusal, firstLine, noLine, rule3, lineVerdict}
 use Rattle.cell.specs.Rules.{inRange, leavesRange, rule4, limitInRange, limitLeavesRange, rule4Limits, greatestResource, hasNoLine, gap, rule5}
-use Rattle.cell.specs.Rules.{otherAct, partner, unpaired, rule6, limitsAbsent, rule20, cellRules, checkCell}
+use Rattle.cell.specs.Rules.{otherAct, partner, unpaired, rule6, limitsAbsent, rule20, alike, stray, rule23, cellRules, checkCell}
 use Rattle.worked.specs.Moves.{filled}
 use Rattle.worked.specs.Limited.{lastLimit, oneLine}
 
@@ -27,7 +27,7 @@ pub record LimitRecords : Type 0 where
 
 pub limit-records : LimitRecords
 unfolding isOf firstBelow anyBelow greatestBelow firstRefusal firstLine noLine rule3 lineVerdict inRange leavesRange rule4 limitInRange
-    limitLeavesRange rule4Limits greatestResource hasNoLine gap rule5 otherAct partner unpaired rule6 limitsAbsent rule20 cellRules
+    limitLeavesRange rule4Limits greatestResource hasNoLine gap rule5 otherAct partner unpaired rule6 limitsAbsent rule20 alike stray rule23 cellRules
     checkCell filled lastLimit oneLine
 limit-records =
     record {

@@ -4,9 +4,10 @@ use mathlib.Core.Logic.{⊎-elim}
 use mathlib.Core.Bool.{Bool, true, false, not, _&&_, _||_}
 use mathlib.Core.List.{List, [], _∷_}
 use Prim.Native.Nat.{ℕ, _+_, _*_, _<_}
+use native.Mathlib.Omega.{arith}
 use lib.ListN.{getD}
 use lib.Dec.{eqb}
-use borrow.Author.Tests.{eqb-true}
+use borrow.Author.Tests.{eqb-true, eqb-false, not-true}
 use Rattle.refusals.specs.Search.{allBelow}
 use Rattle.refusals.proofs.EveryBelow.{all-at}
 use Rattle.refusals.proofs.TabulatedLists.{length-tabulate}
@@ -24,7 +25,7 @@ use Rattle.steps.specs.Entry.{entryKind, letter, isFormed}
 use Rattle.steps.specs.Effect.{opens}
 use Rattle.steps.proofs.OpenByKind.{opens-joint}
 use Rattle.steps.proofs.Effects.{formed-kind}
-use Rattle.steps.proofs.EntryForms.{formed-internal, formed-transfer, formed-carry}
+use Rattle.steps.proofs.EntryForms.{carryEntry, formed-internal, formed-transfer, formed-carry}
 use Rattle.run.specs.Book.{asks, opened}
 use Rattle.simulation.specs.Simulation.{Position, Greatest}
 use Rattle.simulation.specs.Plan.{Planned}
@@ -40,7 +41,7 @@ unfoldable pub soleAt : Cell → Recipe → ℕ → Configuration → ℕ → Bo
 soleAt c r p a x =
     allBelow (λ l. isSole (opens c r p a (16777216 + l)) (16777216 + l) x) (c .count)
     && (allBelow (λ l. allBelow (λ k. isSole (opens c r p a (33554432 + l + 64 * k)) (33554432 + l + 64 * k) x) (c .count)) (c .count)
-    && allBelow (λ l. isSole (opens c r p a (50331648 + l)) (50331648 + l) x) (c .count))
+    && allBelow (λ l. isSole (opens c r p a (carryEntry c r p l)) (carryEntry c r p l) x) (c .count))
 
 sole-is : (able : Bool) (e x : ℕ) → isSole able e x ≡ true → able ≡ true → e ≡ x
 unfolding isSole
@@ -82,7 +83,7 @@ module _ (c : Cell) (r : Recipe) (p : ℕ) (a : Configuration) (e x : ℕ) (one 
       carry kind =
           let listed = formed-carry c r p e formed one kind in
           open-at _ (listed .1)
-          (all-at (λ l. isSole (opens c r p a (50331648 + l)) (50331648 + l) x) (c .count) (letter e 0)
+          (all-at (λ l. isSole (opens c r p a (carryEntry c r p l)) (carryEntry c r p l) x) (c .count) (letter e 0)
           (search (and-left, and-right)) (listed .0))
 
 -- position m is in the greatest simulation, and has one open move: so every plan has it there
@@ -97,15 +98,15 @@ module _
     abbrev configuration : Configuration
     configuration = configurationAt z m
 
-    pub here : Position z point configuration
+    here : Position z point configuration
     unfolding configurationAt
     here = record { in-range = position-fits z (checked-fits c r z K) m low; six = length-tabulate _ 6; eight = length-tabulate _ 8 }
 
-    pub entry-at : entryOf z table point configuration ≡ getD table m 0
+    entry-at : entryOf z table point configuration ≡ getD table m 0
     unfolding entryOf
     entry-at = ap (λ (k : ℕ). getD table k 0) (number-back z (checked-fits c r z K) m low)
 
-    pub forced :
+    forced :
         (x : ℕ)
         → Greatest c r z point configuration
         → (kindOf r point ≡ 0 → ⊥)
@@ -119,3 +120,27 @@ module _
         sym (book-is c r z K .open-is (opened point configuration) (entryOf z table point configuration))
         ∙ plan-opens c r z table point configuration (plan .promises point configuration here alive (asks ∷ [])) in
         sym entry-at ∙ sole-open c r point configuration (entryOf z table point configuration) x one some sole able
+
+-- a do or test of one line at which the table shown has the entry x, and no other move is open
+unfoldable pub soleIn : Cell → Recipe → Sizes → List ℕ → ℕ → ℕ → Bool
+soleIn c r z shown m x =
+    let p = pointAt z m in
+    let a = configurationAt z m in
+    not (eqb (kindOf r p) 0) && (eqb (linesOf r p) 1 && (eqb (entryOf z shown p a) x && soleAt c r p a x))
+
+-- where the greatest simulation holds each position at which the table shown has an entry, every plan has this one
+module _
+    (c : Cell) (r : Recipe) (z : Sizes) (K : Checked c r z)
+    (before table : List ℕ) (refused : Bool) (plan : Planned c r z before table refused)
+    (shown : List ℕ)
+    (holds : (p : ℕ) (a : Configuration) → Position z p a → (entryOf z shown p a ≡ 0 → ⊥) → Greatest c r z p a)
+  where
+    pub sole-planned : (m x : ℕ) → m < z .positions → 0 < x → soleIn c r z shown m x ≡ true → getD table m 0 ≡ x
+    unfolding soleIn
+    sole-planned m x low some test =
+        let is : entryOf z shown (pointAt z m) (configurationAt z m) ≡ x = eqb-true _ x (search (and-left, and-right)) in
+        forced c r z K before table refused plan m low x
+        (holds _ _ (here c r z K before table refused plan m low) (λ zero. omega (arith, is, zero)))
+        (eqb-false _ 0 (not-true _ (and-left _ _ test)))
+        (eqb-true _ 1 (search (and-left, and-right)))
+        (search (and-left, and-right))

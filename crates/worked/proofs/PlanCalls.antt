@@ -1,29 +1,29 @@
 -- What every plan call leaves of the bench example and of the two recipes that document 01 changes it to: theorems over the
 -- call's contract, whatever table and scratch were lent. Assumes nothing.
-use mathlib.Core.Path.{_≡_, refl, sym, _∙_}
-use mathlib.Core.Bool.{Bool, true, false, not, _&&_}
+use mathlib.Core.Path.{_≡_, refl}
+use mathlib.Core.Bool.{Bool, true}
 use mathlib.Core.List.{List}
 use Prim.Native.Nat.{ℕ, _<_, _≤_}
 use native.Mathlib.Omega.{arith}
 use lib.ListN.{length, getD}
-use lib.Dec.{eqb}
-use borrow.Author.Tests.{eqb-true, eqb-false, not-true}
 use Rattle.refusals.specs.declared.Refusal.the-variants.{TooShort, NotRealisable}
 use Rattle.refusals.specs.declared.Verdict.{Verdict}
 use Rattle.refusals.specs.declared.Verdict.the-variants.{Accepted, Refused}
 use Rattle.refusals.specs.Search.{firstBelow, anyBelow, allBelow, countBelow, greatestBelow, tabulate, isOf}
-use Rattle.refusals.proofs.Verdicts.{and-left, and-right, refused-not}
+use Rattle.refusals.proofs.Verdicts.{refused-not}
 use Rattle.cell.specs.Rules as cell
 use Rattle.recipe.specs.Rules as recipe
 use Rattle.positions.specs.Radix.{sumBelow, productBelow}
 use Rattle.positions.specs.Sizes.{stateCount, stateCounts, partsIn, partCount, jointCount, sizesFor, sizesOf, farthest}
-use Rattle.positions.specs.Position.{stateNumber, placeNumber, positionOf, stateWeight, pointAt, stateAt, placeAt, configurationAt}
+use Rattle.positions.specs.Position.{stateNumber, placeNumber, positionOf, stateWeight, pointAt, stateAt, placeAt, configurationAt, entryOf}
 use Rattle.steps.specs.Lines.{firstLineOf, linesOf, kindOf, thenOf, elseOf, isTaken, isGiven}
 use Rattle.steps.specs.Limits.{load, keepsLimits, noneOverfull}
+use Rattle.steps.specs.Gates.{gateAmong, gateOf, gated}
 use Rattle.steps.specs.Joint.{mayDo, acts, actsOn, howMany, portFits, isStep, isSilentStep, stateAfter, receiver, handed, placeAfter, after, isSilent}
 use Rattle.steps.specs.Carry.{serves, matches, standsAt, present, free, suits, carries, putThere, placed, partsMoved, afterCarry, isFree}
-use Rattle.steps.specs.Entry.{entryKind, letter, unused, lettersUsed, isLine, isFormed, only, stepOf, mayBeTaken}
+use Rattle.steps.specs.Entry.{entryKind, letter, unused, linesUsed, carryLetters, lettersUsed, namesGate, isLine, isFormed, only, stepOf, mayBeTaken}
 use Rattle.steps.specs.Effect.{taken, effect, isMove, opens, leaves, makes, leadsTo}
+use Rattle.steps.proofs.EntryForms.{carryEntry}
 use Rattle.simulation.specs.Plan.{Planned}
 use Rattle.planner.specs.Call.{checkPlan, PlanCall}
 use Rattle.worked.specs.Moves.{filled, benchCell, benchRecipe, benchSizes, benchEntry, benchTable}
@@ -31,31 +31,28 @@ use Rattle.worked.specs.Plans.{deadRecipe, endRecipe}
 use Rattle.worked.proofs.BenchPlan.{computed, bench-checked, bench-planned, entry-one, entry-last, dead-recipe, one-end}
 use Rattle.worked.proofs.LedRecipes.{led-recipes}
 use Rattle.worked.proofs.LentLengths.{check-passes, short-refused, short-untouched, call-accepts, call-refuses}
-use Rattle.worked.proofs.OneMoveOpen.{isSole, soleAt, here, entry-at, forced}
+use Rattle.worked.proofs.OneMoveOpen.{isSole, soleAt, soleIn, sole-planned}
 
--- a do or test of one line at which the bench example's table has the entry x, and no other move is open
-sole : ℕ → ℕ → Bool
-sole m x =
-    let p = pointAt benchSizes m in
-    not (eqb (kindOf benchRecipe p) 0)
-    && (eqb (linesOf benchRecipe p) 1 && (eqb (getD benchTable m 0) x && soleAt benchCell benchRecipe p (configurationAt benchSizes m) x))
+-- such a move of the bench example's table
+abbrev sole : ℕ → ℕ → Bool
+sole = soleIn benchCell benchRecipe benchSizes benchTable
 
 record Sole : Type 0 where
   glued : sole 0 50331648 ≡ true
   passed-on : sole 22 33554561 ≡ true
-  tested : sole 26 50331651 ≡ true
+  tested : sole 26 50331843 ≡ true
   left : sole 50 50331652 ≡ true
   taken-out : sole 68 50331652 ≡ true
   dead-positions : sizesOf benchCell deadRecipe .positions ≡ 90
   end-positions : sizesOf benchCell endRecipe .positions ≡ 6
 
 soles : Sole
-unfolding isOf firstBelow anyBelow allBelow countBelow greatestBelow tabulate cell.greatestResource recipe.holdsPart recipe.pointCount
+unfolding isOf firstBelow anyBelow allBelow countBelow greatestBelow tabulate cell.greatestResource cell.alike recipe.holdsPart recipe.pointCount
     sumBelow productBelow stateCount stateCounts partsIn partCount jointCount sizesFor stateNumber placeNumber positionOf stateWeight
-    pointAt stateAt placeAt configurationAt firstLineOf linesOf kindOf thenOf elseOf isTaken isGiven isSole soleAt sole filled benchCell
+    pointAt stateAt placeAt configurationAt firstLineOf linesOf kindOf thenOf elseOf isTaken isGiven isSole soleAt soleIn carryEntry entryOf filled benchCell
     benchRecipe benchEntry benchTable deadRecipe endRecipe mayDo acts actsOn howMany portFits isStep isSilentStep load keepsLimits
-    noneOverfull suits stateAfter receiver handed placeAfter after serves matches standsAt present free carries putThere placed partsMoved
-    afterCarry entryKind letter unused lettersUsed isLine isFormed only stepOf mayBeTaken taken effect isMove opens leaves makes leadsTo
+    noneOverfull gateAmong gateOf gated suits stateAfter receiver handed placeAfter after serves matches standsAt present free carries putThere placed partsMoved
+    afterCarry entryKind letter unused linesUsed carryLetters lettersUsed namesGate isLine isFormed only stepOf mayBeTaken taken effect isMove opens leaves makes leadsTo
     farthest isSilent isFree
 soles =
     record {
@@ -74,7 +71,7 @@ pub record Bench (table : List ℕ) (verdict : Verdict) : Type 0 where
   -- ‡ "these four moves"
   pub entry-0 : getD table 0 0 ≡ 50331648
   pub entry-22 : getD table 22 0 ≡ 33554561
-  pub entry-26 : getD table 26 0 ≡ 50331651
+  pub entry-26 : getD table 26 0 ≡ 50331843
   pub entry-50 : getD table 50 0 ≡ 50331652
   -- ‡ "68 leads to 0": the move at which it does
   pub entry-68 : getD table 68 0 ≡ 50331652
@@ -106,20 +103,9 @@ module _ (table scratch table′ scratch′ : List ℕ) (verdict : Verdict) wher
       plan = call .planned passes
 
       move : (m x : ℕ) → m < 90 → 0 < x → sole m x ≡ true → getD table′ m 0 ≡ x
-      unfolding sole
       move m x low some test =
-          let under : m < benchSizes .positions = omega (arith, computed .positions) in
-          let at-m = here benchCell benchRecipe benchSizes bench-checked benchTable benchTable false bench-planned m under in
-          let is : getD benchTable m 0 ≡ x = eqb-true _ x (search (and-left, and-right)) in
-          forced benchCell benchRecipe benchSizes bench-checked table table′ (call .refused) plan m under x
-          (bench-planned .entry-holds _ _ at-m (λ zero. omega (
-            arith,
-            is,
-            sym (entry-at benchCell benchRecipe benchSizes bench-checked benchTable benchTable false bench-planned m under) ∙ zero,
-          )))
-          (eqb-false _ 0 (not-true _ (and-left _ _ test)))
-          (eqb-true _ 1 (search (and-left, and-right)))
-          (search (and-left, and-right))
+          sole-planned benchCell benchRecipe benchSizes bench-checked table table′ (call .refused) plan benchTable (bench-planned .entry-holds) m x
+          (omega (arith, computed .positions)) some test
 
       pub bench-called : Bench table′ verdict
       bench-called =
@@ -129,7 +115,7 @@ module _ (table scratch table′ scratch′ : List ℕ) (verdict : Verdict) wher
                 (omega (arith, computed .positions)) (bench-planned .accepted-holds refl);
             entry-0 = move 0 50331648 (omega arith) (omega arith) (soles .glued);
             entry-22 = move 22 33554561 (omega arith) (omega arith) (soles .passed-on);
-            entry-26 = move 26 50331651 (omega arith) (omega arith) (soles .tested);
+            entry-26 = move 26 50331843 (omega arith) (omega arith) (soles .tested);
             entry-50 = move 50 50331652 (omega arith) (omega arith) (soles .left);
             entry-68 = move 68 50331652 (omega arith) (omega arith) (soles .taken-out);
             entry-72 = entry-last table table′ (call .refused) plan;

@@ -12,12 +12,13 @@ use Rattle.positions.specs.Position.{start, stateNumber, placeNumber, positionO
 use Rattle.positions.specs.Rules.{recordRules, rule13, rule14, placeCount, isPosition, rule16, placeFits, stateFits}
 use Rattle.steps.specs.Lines.{firstLineOf, linesOf, kindOf, thenOf, elseOf, isTaken, isGiven}
 use Rattle.steps.specs.Limits.{load, keepsLimits, noneOverfull}
+use Rattle.steps.specs.Gates.{gateAmong, gateOf, gated}
 use Rattle.steps.specs.Joint.{mayDo, acts, actsOn, howMany, portFits, isStep, isSilentStep, stateAfter, receiver, handed, placeAfter, after, isSilent}
 use Rattle.steps.specs.Carry.{serves, matches, standsAt, present, free, suits, carries, putThere, placed, partsMoved, afterCarry, isFree}
-use Rattle.steps.specs.Entry.{entryKind, letter, unused, lettersUsed, isLine, isFormed, only, stepOf, mayBeTaken}
+use Rattle.steps.specs.Entry.{entryKind, letter, unused, linesUsed, carryLetters, lettersUsed, namesGate, isLine, isFormed, only, stepOf, mayBeTaken}
 use Rattle.steps.specs.Effect.{taken, effect, isMove, opens, leaves, makes, leadsTo}
 use Rattle.run.specs.Calls.{freshRun, tableRules, entryRules, rule17, rule18, rule19, moveRules, reportRules, nextMove, nextRun, reportOf}
-use Rattle.run.specs.Book.{opened, byTable, atEnd, isOpen, refusalOf, setTo, movedTo, configurationAfter, pointAfter}
+use Rattle.run.specs.Book.{opened, byTable, atEnd, isOpen, refusalOf, setTo, movedTo, arrow, configurationAfter, pointAfter}
 use Rattle.run.specs.Book.{made, isAccepted, turned, noted, answer, moments, answers, issuedBy, issued}
 use Rattle.run.specs.Promises.{Promises, agree, rightly, neverShut, everyIssue, wasOpen, ofCarries, foundParts, carriedPoint, fewSilent, neverOverfull}
 use Rattle.run.proofs.CallsByValue.{runAfter, runAnswer, runAnswers, chain-answers}
@@ -35,16 +36,16 @@ pub record StoredRun : Type 0 where
 pub stored-run : StoredRun
 unfolding isOf firstBelow anyBelow allBelow countBelow greatestBelow tabulate firstRefusal firstLine noLine rule3 cell.leavesRange
     cell.rule4 cell.greatestResource cell.rule5 cell.otherAct cell.partner cell.unpaired cell.limitInRange cell.limitLeavesRange
-    cell.rule4Limits cell.rule6 cell.limitsAbsent cell.rule20 cell.cellRules recipe.leavesRange recipe.rule4 recipe.breaksOrder recipe.rule7
+    cell.rule4Limits cell.rule6 cell.limitsAbsent cell.rule20 cell.alike cell.stray cell.rule23 cell.cellRules recipe.leavesRange recipe.rule4 recipe.breaksOrder recipe.rule7
     recipe.clashes recipe.breaksRepeat recipe.rule8 recipe.breaksUnused recipe.rule9 recipe.lacksParts recipe.rule10 recipe.holdsPart
     recipe.common recipe.sharesPart recipe.rule11 recipe.pointCount recipe.leadsOut recipe.rule12 recipe.recipeRules sumBelow productBelow
     stateCount stateCounts partsIn partCount jointCount sizesFor start stateNumber placeNumber positionOf recordRules rule13 rule14
     placeCount isPosition rule16 firstLineOf linesOf kindOf thenOf elseOf isTaken isGiven freshRun entryOf tableRules entryRules rule17 rule18 rule19
-    moveRules reportRules nextMove nextRun reportOf opened byTable atEnd isOpen refusalOf setTo movedTo configurationAfter pointAfter made
+    moveRules reportRules nextMove nextRun reportOf opened byTable atEnd isOpen refusalOf setTo movedTo arrow configurationAfter pointAfter made
     isAccepted turned noted answer moments answers issuedBy issued refusalIn runAfter runAnswer runAnswers every agree rightly neverShut
     everyIssue wasOpen foundParts carriedPoint fewSilent neverOverfull filled benchCell benchEntry forgottenRecipe storedTable mayDo acts actsOn
-    howMany portFits isStep isSilentStep load keepsLimits noneOverfull suits stateAfter receiver handed placeAfter after serves matches
-    standsAt present free carries putThere placed partsMoved afterCarry entryKind letter unused lettersUsed isLine isFormed only stepOf
+    howMany portFits isStep isSilentStep load keepsLimits noneOverfull gateAmong gateOf gated suits stateAfter receiver handed placeAfter after serves matches
+    standsAt present free carries putThere placed partsMoved afterCarry entryKind letter unused linesUsed carryLetters lettersUsed namesGate isLine isFormed only stepOf
     mayBeTaken ifAccepted ofCarries taken effect isMove opens leaves makes leadsTo cell.inRange cell.gap cell.hasNoLine recipe.inRange
     recipe.hasUnused farthest stateWeight stateFits placeFits isSilent isFree lineVerdict
 stored-run =

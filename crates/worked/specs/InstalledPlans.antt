@@ -11,14 +11,14 @@ unfoldable pub testingTable : List ℕ
 testingTable =
     tabulate 90
     (λ m. cond (eqb m 0) 50331648
-    (cond (eqb m 22) 33554561 (cond (eqb m 26) 50331652 (cond (eqb m 50 || eqb m 68) 50331651 (cond (eqb m 72) 67108864 0)))))
+    (cond (eqb m 22) 33554561 (cond (eqb m 26) 50331908 (cond (eqb m 50 || eqb m 68) 50331651 (cond (eqb m 72) 67108864 0)))))
 
 -- with 0,0,1,1 or 1,0,1,1 as line 4: it is fed at 0, by the first of them to be handed over at 22
 unfoldable pub feedingTable : List ℕ
 feedingTable =
     tabulate 90
     (λ m. cond (eqb m 0) 50331652
-    (cond (eqb m 22) 33554496 (cond (eqb m 26) 50331650 (cond (eqb m 50 || eqb m 68) 50331651 (cond (eqb m 72) 67108864 0)))))
+    (cond (eqb m 22) 33554496 (cond (eqb m 26) 50331778 (cond (eqb m 50 || eqb m 68) 50331651 (cond (eqb m 72) 67108864 0)))))
 
 -- one silent move, at 22
 unfoldable pub handRanks : List ℕ
@@ -46,7 +46,7 @@ unfoldable pub togetherTable : List ℕ
 togetherTable =
     tabulate 90
     (λ m. cond (eqb m 0) 50331648
-    (cond (eqb m 22) 50331666 (cond (eqb m 37 || eqb m 55) 50331676 (cond (eqb m 72) 67108864 0))))
+    (cond (eqb m 22) 50332818 (cond (eqb m 37 || eqb m 55) 50331676 (cond (eqb m 72) 67108864 0))))
 
 -- without line 0: with other lines of operation 1, the part that was fed stays where nothing tests it
 unfoldable pub idleStages : List ℕ

@@ -9,3 +9,5 @@ pub mod LimitFiles
 pub mod Installed
 pub mod InstalledPlans
 pub mod Unreached
+pub mod Gated
+pub mod GatedPlans

@@ -47,13 +47,15 @@ abbrev pub benchSizes : Sizes
 benchSizes = sizesOf benchCell benchRecipe
 
 -- the next position, from a position by an entry at an outcome; the position itself if the entry isn't a move open there
-unfoldable pub next : ℕ → ℕ → ℕ → ℕ
-next position entry outcome =
-    let p = pointAt benchSizes position in
-    let a = configurationAt benchSizes position in
-    cond (opens benchCell benchRecipe p a entry)
-    (positionOf benchSizes (leadsTo benchRecipe p entry outcome) (makes benchCell benchRecipe p a entry outcome))
-    position
+unfoldable pub nextIn : Cell → Recipe → ℕ → ℕ → ℕ → ℕ
+nextIn c r position entry outcome =
+    let z = sizesOf c r in
+    let p = pointAt z position in
+    let a = configurationAt z position in
+    cond (opens c r p a entry) (positionOf z (leadsTo r p entry outcome) (makes c r p a entry outcome)) position
+
+abbrev pub next : ℕ → ℕ → ℕ → ℕ
+next = nextIn benchCell benchRecipe
 
 -- the bench example's plan: the moves that `walk` prints, those at other positions from which the recipe can be built, and
 -- the entry of an end at each position of point 4, the numbers from 72 on
@@ -61,7 +63,7 @@ unfoldable pub benchEntry : ℕ → ℕ
 benchEntry m =
     cond (eqb m 0) 50331648
     (cond (eqb m 22 || eqb m 23) 33554561
-    (cond (eqb m 26) 50331651 (cond (eqb m 50 || (eqb m 53 || eqb m 68)) 50331652 (cond (leb 72 m) 67108864 0))))
+    (cond (eqb m 26) 50331843 (cond (eqb m 50 || (eqb m 53 || eqb m 68)) 50331652 (cond (leb 72 m) 67108864 0))))
 
 -- a table of M entries that holds them
 unfoldable pub benchTable : List ℕ

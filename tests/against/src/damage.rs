@@ -53,14 +53,16 @@ pub fn ever_more_damaged((mut cell, mut recipe): Records) -> Vec<(Records, u32)>
         recipe[at] = number;
         steps.push(((cell.clone(), recipe.clone()), refusal));
     }
-    // A limit of a resource that isn't there; cell line 2 with another port; line 4 of a resource with
-    // a gap before it; a limit out of range; line 2 of no act; then too many lines.
+    // Cell line 3 a gate without its operation line; a limit of a resource that isn't there; line 2 with
+    // another port; line 4 of a resource with a gap before it; a limit out of range; line 2 of no act; then
+    // too many lines.
     for (at, number, refusal) in [
+        (18, 4, 23),
         (CELL_BYTES - 1, 7, 20),
         (14, 6, 6),
         (21, 3, 5),
         (CELL_BYTES - MOST_RESOURCES, 9, 4),
-        (13, 4, 4),
+        (13, 5, 4),
         (0, 65, 3),
     ] {
         cell[at] = number;
@@ -89,7 +91,7 @@ pub fn seeded_cell(pair: &Pair, random: &mut Random) -> Vec<u8> {
 
 /// A cell record whose lines mostly break a rule.
 fn broken_cell(pair: &Pair, random: &mut Random) -> Vec<u8> {
-    let mut record = broken::<CellFile>(&pair.cell, &[4, 5, 6], random);
+    let mut record = broken::<CellFile>(&pair.cell, &[4, 5, 6, 23, 23], random);
     limits_of(&mut record).copy_from_slice(&pair.limits);
     record
 }

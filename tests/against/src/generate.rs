@@ -1,7 +1,7 @@
 //! Files for the comparison: good ones, and every kind of damage to them.
 
-use crate::points;
 use crate::random::Random;
+use crate::{gates, points};
 use crate::{CellFile, Columns, Format, LimitsFile, RecipeFile};
 use independent::{MOST_LINES, MOST_RESOURCES};
 use std::ops::RangeInclusive;
@@ -13,6 +13,7 @@ pub(crate) const INTERNAL: u32 = 0;
 pub(crate) const OPERATION: u32 = 1;
 pub(crate) const IN: u32 = 2;
 pub(crate) const OUT: u32 = 3;
+pub(crate) const GATE: u32 = 4;
 
 pub(crate) const END: u32 = 0;
 pub(crate) const DO: u32 = 1;
@@ -21,10 +22,12 @@ pub(crate) const TEST: u32 = 2;
 const PARTS: usize = 8;
 
 /// Columns of a cell row.
-mod cell {
+pub(crate) mod cell {
     pub const RESOURCE: usize = 0;
+    pub const FROM: usize = 1;
     pub const ACT: usize = 2;
     pub const ARG: usize = 3;
+    pub const TO: usize = 4;
 }
 
 /// Columns of a recipe row.
@@ -201,7 +204,11 @@ fn change_number<F: Columns>(
 }
 
 /// Some row that `fits`, if there is one.
-fn some_row(rows: &Rows, random: &mut Random, fits: impl Fn(&[u32]) -> bool) -> Option<usize> {
+pub(crate) fn some_row(
+    rows: &Rows,
+    random: &mut Random,
+    fits: impl Fn(&[u32]) -> bool,
+) -> Option<usize> {
     let fitting: Vec<usize> = (0..rows.len()).filter(|&n| fits(&rows[n])).collect();
     (!fitting.is_empty()).then(|| random.choose(&fitting))
 }
@@ -232,6 +239,9 @@ impl Generate for CellFile {
         }
         for resource in missing {
             rows.push(work_row(resource, random));
+        }
+        if random.below(3) == 0 {
+            gates::add(&mut rows, |_| CellFile::GREATEST[cell::TO] + 1, random);
         }
         random.shuffle(&mut rows);
         rows
@@ -268,11 +278,12 @@ impl Generate for CellFile {
                         let port = rows[n][ARG];
                         let partners = rows
                             .iter_mut()
-                            .filter(|row| row[ACT] >= IN && row[ARG] == port);
+                            .filter(|row| matches!(row[ACT], IN | OUT) && row[ARG] == port);
                         partners.for_each(|row| row[RESOURCE] = resource);
                     }
                 }
             }
+            23 => gates::break_rule(rows, random),
             _ => panic!("no change of numbers breaks rule {rule} of a cell"),
         }
     }

@@ -4,6 +4,7 @@
 
 pub mod calls;
 pub mod damage;
+pub mod gates;
 pub mod generate;
 pub mod installs;
 pub mod lists;
@@ -246,8 +247,8 @@ pub struct CellFile;
 impl Columns for CellFile {
     const NAMES: &'static [u8] = CELL_NAMES;
     const LEAST: &'static [u32] = &[0; 5];
-    const GREATEST: &'static [u32] = &[5, 7, 3, 63, 7];
-    const REFUSALS: &'static [u8] = &[1, 2, 3, 4, 5, 6];
+    const GREATEST: &'static [u32] = &[5, 7, 4, 63, 7];
+    const REFUSALS: &'static [u8] = &[1, 2, 3, 4, 5, 6, 23];
 }
 
 impl Format for CellFile {

@@ -20,6 +20,8 @@ pub struct Seen {
     pub silent: u64,
     /// Calls before or after which some station was overfull.
     pub overfull: usize,
+    /// Tests with a gate that were issued, by the form of the report and by the outcome.
+    pub gates: [[usize; 2]; 2],
 }
 
 impl Seen {
@@ -31,6 +33,7 @@ impl Seen {
             (&mut self.next_moves[..], &other.next_moves[..]),
             (&mut self.reports, &other.reports),
             (&mut self.issued, &other.issued),
+            (self.gates.as_flattened_mut(), other.gates.as_flattened()),
         ] {
             all.iter_mut()
                 .zip(one)
@@ -85,7 +88,7 @@ impl List<'_> {
         for _ in 0..calls {
             seen.calls += 1;
             let expected = book.next_move();
-            let overfull = book.is_overfull();
+            let (overfull, at_gate) = (book.is_overfull(), book.is_at_gate());
             if random.below(3) == 0 {
                 let List {
                     cell,
@@ -107,6 +110,9 @@ impl List<'_> {
             seen.reports[refusal as usize] += 1;
             seen.issued[kind_of(expected.entry) as usize] += usize::from(refusal == 0);
             seen.silent = seen.silent.max(book.silent_moves());
+            if at_gate && refusal == 0 {
+                seen.gates[form as usize][usize::from(outcome)] += 1;
+            }
             seen.overfull += usize::from(overfull || book.is_overfull());
         }
         seen

@@ -2,12 +2,13 @@
 //! entries to try on them.
 
 use crate::generate::{self, Rows, DO, END, IN, INTERNAL, OPERATION, OUT, TEST};
-use crate::points;
 use crate::random::Random;
+use crate::{gates, points};
 use crate::{CellFile, RecipeFile};
 use independent::{
-    cell_bytes, check_cell, entry_of, is_open, kind_of, letters_of, likely_pair, limited_pair,
-    recipe_bytes, Cell, Configuration, Recipe, Run, Sizes, CELL_BYTES, MOST_RESOURCES, NO_LIMIT,
+    carry_of, cell_bytes, cell_of_bytes, check_cell, entry_of, is_open, kind_of, letters_of,
+    likely_pair, limited_pair, realisable_by_single_moves, recipe_bytes, recipe_of_bytes, Cell,
+    Configuration, Recipe, Run, Sizes, CELL_BYTES, MOST_RESOURCES, NO_LIMIT,
 };
 use independent::{CARRY, INTERNAL as INTERNAL_MOVE, STAY, TRANSFER};
 
@@ -65,6 +66,27 @@ impl Pair {
 
     pub fn recipe_bytes(&self) -> Vec<u8> {
         generate::record::<RecipeFile>(&self.recipe)
+    }
+
+    /// The records of both.
+    pub fn records(&self) -> (Cell, Recipe) {
+        let (cell, recipe) = (self.cell_bytes(), self.recipe_bytes());
+        (cell_of_bytes(&cell), recipe_of_bytes(&recipe))
+    }
+
+    /// Wants an operation at point 0 that the cell hasn't, unless the recipe ends there. Whether the recipe
+    /// can then not be built.
+    pub fn want_unknown_operation(&mut self) -> bool {
+        let is_unknown = |number: &u32| self.cell.iter().all(|row| row[3] != *number);
+        let Some(unknown) = (0..64).find(is_unknown) else {
+            return false;
+        };
+        let first = self.recipe.iter_mut();
+        first
+            .filter(|row| row[0] == 0 && row[1] != END)
+            .for_each(|row| row[2] = unknown);
+        let (cell, recipe) = self.records();
+        !realisable_by_single_moves(&cell, &recipe)
     }
 }
 
@@ -136,8 +158,8 @@ impl Shape {
 }
 
 /// A cell and a recipe of at most this many positions that pass the rules 3 to 12. Both use the same few
-/// operations and the cell few ports, so that much of it fits together. Two cells in three have limits, and
-/// about one recipe in ten has unreached points.
+/// operations and the cell few ports, so that much of it fits together. Two cells in three have limits, more
+/// than a third have gates, and about one recipe in ten has unreached points.
 pub fn good_pair(most_positions: u64, random: &mut Random) -> Pair {
     let shape = Shape::new(most_positions, random);
     let operations: Vec<u32> = (0..1 + random.below(3))
@@ -154,7 +176,7 @@ pub fn good_pair(most_positions: u64, random: &mut Random) -> Pair {
 }
 
 /// A cell and a recipe of at most this many positions, many of which are realisable. Every other pair has
-/// limits, and about one recipe in ten has unreached points.
+/// limits, more than a third have gates, and about one recipe in ten has unreached points.
 pub fn either_pair(
     n: usize,
     most_positions: u64,
@@ -193,7 +215,10 @@ pub fn full_pair() -> Pair {
 
 fn cell_rows(shape: &Shape, operations: &[u32], random: &mut Random) -> Rows {
     let resources = shape.states.len();
+    let gated = random.below(5) < 2;
     let lines = match random.below(8) {
+        // Gates want room behind the others.
+        0 if gated => 48,
         0 => 64,
         _ => resources * (1 + random.below(5)),
     };
@@ -223,6 +248,9 @@ fn cell_rows(shape: &Shape, operations: &[u32], random: &mut Random) -> Rows {
             _ if resources > 1 && free > 3 => push_transfer(&mut rows, shape, random),
             _ => {}
         }
+    }
+    if gated {
+        gates::add(&mut rows, |k| shape.states[k], random);
     }
     random.shuffle(&mut rows);
     rows
@@ -368,7 +396,11 @@ pub fn run_with_move(
     for &letter in &letters[..used] {
         run.configuration.states[usize::from(cell.resource[letter])] = cell.from[letter];
     }
-    Some((run, entry_of(kind, letters)))
+    let entry = match kind {
+        CARRY => carry_of(cell, recipe, run.point, &letters[..used]),
+        _ => entry_of(kind, letters),
+    };
+    Some((run, entry))
 }
 
 /// An out and an in on its port, with about half of the parts at the out's station.
@@ -435,7 +467,8 @@ pub fn open_entries(cell: &Cell, recipe: &Recipe, run: &Run) -> Vec<u32> {
         entries.extend(with_act(IN).map(|b| entry_of(TRANSFER, [a, b, 0, 0])));
     }
     let mut carries = vec![[0; 4]];
-    for (i, n) in lines_at(recipe, run.point).into_iter().enumerate() {
+    let lines = lines_at(recipe, run.point);
+    for (i, &n) in lines.iter().enumerate() {
         let shorter = std::mem::take(&mut carries);
         // Only what could be open, or there would be too many to try.
         let ready = |&line: &usize| {
@@ -454,7 +487,8 @@ pub fn open_entries(cell: &Cell, recipe: &Recipe, run: &Run) -> Vec<u32> {
             }));
         }
     }
-    entries.extend(carries.into_iter().map(|letters| entry_of(CARRY, letters)));
+    let carry = |letters: &[usize; 4]| carry_of(cell, recipe, run.point, &letters[..lines.len()]);
+    entries.extend(carries.iter().map(carry));
     entries.retain(|&entry| is_open(cell, recipe, run.point, &run.configuration, entry));
     entries
 }
@@ -489,6 +523,14 @@ pub fn other_entry(entry: u32, cell: &Cell, random: &mut Random) -> u32 {
             entry_of(1 + random.number(4), plausible)
         }
     }
+}
+
+/// The entry with another second letter, or the same: of a test, one alone is open.
+pub fn other_second_letter(entry: u32, cell: &Cell, random: &mut Random) -> u32 {
+    let [a, _, c, d] = letters_of(entry);
+    let any = random.below(usize::from(cell.count));
+    let b = random.choose(&[0, a, any, cell.line_on_failure(a)]);
+    entry_of(kind_of(entry), [a, b, c, d])
 }
 
 /// Puts most parts at one station, which is then overfull if it has a small limit; but none of those

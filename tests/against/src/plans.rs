@@ -61,6 +61,11 @@ impl Handed {
         }
     }
 
+    /// The records of such a pair, with just enough lent.
+    pub fn of_pair(pair: &Pair) -> Handed {
+        Handed::of(pair.cell_bytes(), pair.recipe_bytes())
+    }
+
     /// The records of a pair that passes the rules 3 to 13, with a table or a scratch that is too short.
     pub fn too_short(cell: Vec<u8>, recipe: Vec<u8>, random: &mut Random) -> Handed {
         let mut handed = Handed::of(cell, recipe);

@@ -1,6 +1,8 @@
 //! The C examples, compiled against the library and run on good and damaged files.
 
 use against::pairs::PASTED_END;
+use independent::{plan, read_cell, read_recipe, scratch_bytes, Run, Sizes};
+use std::collections::BTreeMap;
 use std::fs;
 use std::path::{Path, PathBuf};
 use std::process::Command;
@@ -15,6 +17,8 @@ const NEST_LIMITS: &str = include_str!("../../../examples/nest/limits.csv");
 const ONE_NEST: &str = include_str!("../../../examples/nest/one_nest.csv");
 const GAP_CELL: &str = include_str!("../../../examples/gap/cell.csv");
 const GAP_RECIPE: &str = include_str!("../../../examples/gap/recipe.csv");
+const GATE_CELL: &str = include_str!("../../../examples/gate/cell.csv");
+const GATE_RECIPE: &str = include_str!("../../../examples/gate/recipe.csv");
 
 fn root() -> &'static Path {
     Path::new(env!("CARGO_MANIFEST_DIR"))
@@ -134,6 +138,28 @@ fn follow(name: &str, [cell, recipe, table]: [&str; 3], outcomes: &str) {
     compare(name, Command::new(follow_table()).args(files).arg(outcomes));
 }
 
+/// The independent planner's table for these files, as far as a run from the start can come.
+fn planned_table(cell: &str, recipe: &str) -> String {
+    let cell = read_cell(cell.as_bytes()).record;
+    let recipe = read_recipe(recipe.as_bytes()).record;
+    let sizes = Sizes::of(&cell, &recipe);
+    let mut table = vec![0; sizes.positions as usize];
+    let scratch = scratch_bytes(sizes.positions) as usize;
+    assert_eq!(plan(&cell, &recipe, &mut table, scratch), 0);
+    let mut entries = BTreeMap::new();
+    let mut waiting = vec![Run::fresh()];
+    while let Some(run) = waiting.pop() {
+        let position = sizes.position(run.point, &run.configuration);
+        let entry = table[position as usize];
+        if entries.insert(position, entry).is_none() {
+            let reports = [0, 1].map(|outcome| run.report(&cell, &recipe, &table, outcome));
+            waiting.extend(reports.map(|report| report.run));
+        }
+    }
+    let lines = entries.iter().map(|(p, entry)| format!("{p},{entry}\n"));
+    format!("position,entry\n{}", lines.collect::<String>())
+}
+
 /// Plans for these files, and follows the plan.
 fn screen(name: &str, [cell, recipe]: [&str; 2], outcomes: &[&str]) {
     let files = [("cell.csv", Some(cell)), ("recipe.csv", Some(recipe))];
@@ -176,12 +202,15 @@ fn the_scripts_build_and_run_the_examples() {
     let nest = ["cell.csv", "recipe.csv", "limits.csv"];
     let limited = "-l limits.csv cell.csv recipe.csv 0 0 0 0 0";
     let limited: Vec<&str> = limited.split(' ').collect();
+    let gate = "../gate/cell.csv ../gate/recipe.csv 0 0 0 0";
+    let gate: Vec<&str> = gate.split(' ').collect();
     for (script, arguments, name) in [
         ("run", &[][..], "bench"),
         ("follow", &[], "follow"),
         ("screen", &[], "screen"),
         ("run", &nest, "nest"),
         ("screen", &limited, "screen_nest"),
+        ("screen", &gate, "screen_gate_opens"),
         ("install", &[], "install"),
     ] {
         let output = Command::new(root().join("examples/c").join(script))
@@ -248,6 +277,37 @@ fn a_recipe_with_a_forgotten_point() {
     follow("follow_unreached", files, "0010");
     screen("screen_unreached", [BENCH_CELL, &recipe], &["0"]);
     install("install_unreached", [GAP_CELL, &recipe], None);
+}
+
+#[test]
+fn the_stored_table_is_the_bench_examples_plan() {
+    assert_eq!(BENCH_TABLE, planned_table(BENCH_CELL, BENCH_RECIPE));
+}
+
+#[test]
+fn a_test_with_a_reject_gate() {
+    let files = [GATE_CELL, GATE_RECIPE];
+    check("gate", Some(GATE_CELL), Some(GATE_RECIPE));
+    screen("screen_gate", files, &["0", "0", "1", "0"]);
+    screen("screen_gate_opens", files, &["0", "0", "0", "0"]);
+    let table = planned_table(GATE_CELL, GATE_RECIPE);
+    follow("follow_gate", [files[0], files[1], &table], "00000010");
+}
+
+#[test]
+fn a_gate_without_its_line_and_one_that_stands_there_twice() {
+    let lone = format!("{BENCH_CELL}1,1,4,3,0\n");
+    check("gate_alone", Some(&lone), Some(BENCH_RECIPE));
+    let twice = format!("{GATE_CELL}1,1,4,2,0\n");
+    screen("screen_gate_twice", [&twice, GATE_RECIPE], &["0"]);
+}
+
+#[test]
+fn a_table_from_before_there_were_gates() {
+    // The second letter of the test's entry was 0.
+    let table = BENCH_TABLE.replace("26,50331843", "26,50331651");
+    assert_ne!(table, BENCH_TABLE);
+    follow("follow_old", [BENCH_CELL, BENCH_RECIPE, &table], "0010");
 }
 
 #[test]

@@ -4,6 +4,7 @@
 
 use against::calls::{Calls, Library};
 use against::damage::fill_past_lines;
+use against::gates;
 use against::installs::{owed, Installing};
 use against::pairs::{self, either_pair, Pair, NO_LIMITS, PASTED_END, PASTED_LOOP};
 use against::plans::Handed;
@@ -33,7 +34,7 @@ const FEW_JOINT_CHOICES: u64 = 40_000;
 const FULL_PAIRS: usize = 2_300;
 
 /// Pairs whose lists are wanted with just enough scratch, and with one byte less.
-const SCRATCH_PAIRS: usize = 2_400;
+const SCRATCH_PAIRS: usize = 3_200;
 
 /// Pairs that are damaged, each so many times.
 const DAMAGED_PAIRS: usize = 13_400;
@@ -42,30 +43,20 @@ const DAMAGED: usize = 4;
 /// The most positions with which a damaged pair gets its list. Greater ones get too short a table.
 const MOST_DAMAGED: usize = 200;
 
-/// The act of an operation and of internal work.
+/// The acts of an operation, of internal work and of a gate.
 const OPERATION: u32 = 1;
 const INTERNAL: u32 = 0;
+const GATE: u32 = 4;
 
-/// What an install call is handed that needs no more than it is lent.
-fn handed(pair: &Pair) -> Handed {
-    Handed::of(pair.cell_bytes(), pair.recipe_bytes())
-}
-
-/// The same with what counts for nothing: any bytes past the lines of the records, and at times a longer table
-/// and scratch.
+/// What an install call is handed for a pair, with what counts for nothing: any bytes past the lines of the
+/// records, and at times a longer table and scratch.
 fn handed_with_noise(pair: &Pair, random: &mut Random) -> Handed {
-    let mut handed = handed(pair);
+    let mut handed = Handed::of_pair(pair);
     fill_past_lines::<CellFile>(&mut handed.cell, random);
     fill_past_lines::<RecipeFile>(&mut handed.recipe, random);
     handed.scratch = scratches::long_enough(handed.entries, random);
     handed.entries += random.choose(&[0, 0, 1, 9]);
     handed
-}
-
-/// The records of a pair.
-fn records(pair: &Pair) -> (Cell, Recipe) {
-    let (cell, recipe) = (pair.cell_bytes(), pair.recipe_bytes());
-    (cell_of_bytes(&cell), recipe_of_bytes(&recipe))
 }
 
 /// Wants a call with each of these lengths of the list to leave what is owed.
@@ -114,7 +105,7 @@ fn bench_without(line: Option<usize>) -> Pair {
 
 /// Wants the library to list these processes, in lists of every length.
 fn expect(pair: &Pair, processes: &[Process]) {
-    let handed = handed(pair);
+    let handed = Handed::of_pair(pair);
     let owed = owed(&handed);
     assert_eq!((owed.refusal, &owed.processes[..]), (0, processes));
     let lengths = every_length(processes);
@@ -138,7 +129,7 @@ fn the_bench_example_with_other_lengths() {
             let handed = Handed {
                 entries,
                 scratch,
-                ..handed(&bench_without(Some(3)))
+                ..Handed::of_pair(&bench_without(Some(3)))
             };
             let short = entries < 90 || scratch < 12;
             let owed = owed(&handed);
@@ -152,7 +143,7 @@ fn the_bench_example_with_other_lengths() {
 
 #[test]
 fn seven_bytes_get_the_first_of_two_lines() {
-    let handed = handed(&bench_without(Some(0)));
+    let handed = Handed::of_pair(&bench_without(Some(0)));
     let mut list = [0xa5; 9];
     let (mut table, mut scratch) = ([7; 90], [7; 12]);
     let mut install = |list: &mut [u8]| {
@@ -173,7 +164,7 @@ fn the_bench_example_with_forgotten_points_gets_no_list() {
         // With a line missing, and with all lines.
         for line in [Some(3), Some(0), None] {
             let pair = Pair::of_lines(&lines_without(BENCH_CELL, line), &[], &recipe);
-            let handed = handed(&pair);
+            let handed = Handed::of_pair(&pair);
             assert_eq!(handed.entries, positions);
             let (mut table, mut scratch, mut list) = ([7; 126], [7; 16], [7; 40]);
             let Handed { cell, recipe, .. } = &handed;
@@ -208,6 +199,27 @@ fn what_has_the_numbers_of_a_process_and_is_none() {
 }
 
 #[test]
+fn a_gate_is_no_process_and_may_serve_a_new_one() {
+    // Both outcomes of the test lead to where `else` goes on, `then` wants state 1.
+    let lines = ["0,0,1,1,0", "0,0,1,2,2", "0,1,1,3,0", "0,2,1,4,0"];
+    let recipe = [
+        "0,1,1,0,1,1,0",
+        "1,2,2,1,0,2,3",
+        "2,1,3,1,0,4,0",
+        "3,1,4,1,0,4,0",
+        "4,0,0,0,0,0,0",
+    ];
+    let pair = |gate: &[&str]| Pair::of_lines(&[&lines[..], gate].concat(), &[], &recipe);
+    // A second operation line from there shares the gate; or `then` goes on from where it is.
+    let processes = [[0, 0, 2, 1], [0, 2, 3, 0], [0, 2, 3, 1], [0, 2, 3, 2]];
+    expect(&pair(&["0,0,4,2,2"]), &processes);
+    expect(&pair(&[]), &processes[1..]);
+    // A gate of those numbers is no such line.
+    expect(&pair(&["0,0,4,2,1"]), &[]);
+    expect(&pair(&["0,0,4,2,0"]), &[]);
+}
+
+#[test]
 fn a_second_station_where_a_nest_is_full() {
     let cell = ["0,0,1,1,0", "1,0,1,3,0"];
     let pair = |limits: &[u8]| Pair::of_lines(&cell, limits, &pairs::TWO_GIVEN);
@@ -228,9 +240,9 @@ fn the_rules_are_tried_in_their_order() {
         pair.cell[3][2] = act;
         // The lines behind the first change nothing.
         pair.cell.resize(MOST_LINES, vec![0, 0, INTERNAL, 9, 0]);
-        let (cell, recipe) = records(&pair);
+        let (cell, recipe) = pair.records();
         assert_eq!(realisable_by_single_moves(&cell, &recipe), act == OPERATION);
-        let handed = handed(&pair);
+        let handed = Handed::of_pair(&pair);
         let no_place = (handed.clone(), 21);
         for (handed, refusal) in handed.ever_more_damaged().into_iter().chain([no_place]) {
             let owed = owed(&handed);
@@ -244,10 +256,12 @@ fn the_rules_are_tried_in_their_order() {
 #[derive(Default)]
 struct Lists {
     compared: usize,
-    /// Those with lines; of these, those with more than one, and those of cells with limits.
+    /// Those with lines; of these, those with more than one, those of cells with limits, and those of cells
+    /// with gates.
     some: usize,
     several: usize,
     limited: usize,
+    gated: usize,
     /// Those without, although the recipe isn't realisable, and because it is.
     none: usize,
     realisable: usize,
@@ -267,6 +281,9 @@ impl Lists {
         if cell.limits != NO_LIMITS {
             self.limited += some;
         }
+        if cell.has_gates() {
+            self.gated += some;
+        }
         match realisable_by_single_moves(cell, recipe) {
             true => self.realisable += 1,
             false => self.none += 1 - some,
@@ -284,8 +301,8 @@ impl Lists {
 
     fn print(&self) {
         println!(
-            "{} lists: {} with lines, {} of these with several, {} of cells with limits",
-            self.compared, self.some, self.several, self.limited
+            "{} lists: {} with lines, {} of these with several, {} of cells with limits, {} with gates",
+            self.compared, self.some, self.several, self.limited, self.gated
         );
         println!(
             "{} without although not realisable, {} realisable already",
@@ -301,7 +318,13 @@ impl Lists {
     fn judge(&self) {
         self.print();
         assert!(3 * self.some >= self.compared, "too few lists have lines");
-        let tenths = [self.several, self.limited, self.none, self.realisable];
+        let tenths = [
+            self.several,
+            self.limited,
+            self.gated,
+            self.none,
+            self.realisable,
+        ];
         assert!(tenths.iter().all(|&times| 10 * times >= self.compared));
     }
 }
@@ -320,7 +343,7 @@ fn lacking_pair(
     for _ in 0..random.choose(&[0, 8, 8, 8, 8, 8]) {
         let mut pair = Pair::of(&cell, &recipe);
         (0..random.choose(&[1, 1, 1, 2])).for_each(|_| lose_process(&mut pair, random));
-        let (cell, recipe) = records(&pair);
+        let (cell, recipe) = pair.records();
         if check(&cell, &recipe) == 0 {
             found = pair;
             if !realisable_by_single_moves(&cell, &recipe) {
@@ -331,7 +354,7 @@ fn lacking_pair(
     found
 }
 
-/// Leaves an operation line out, or gives it another state or operation.
+/// Leaves an operation line out, or gives it another state or operation. A gate that has no other goes too.
 fn lose_process(pair: &mut Pair, random: &mut Random) {
     let rows = 0..pair.cell.len();
     let operations: Vec<usize> = rows.filter(|&n| pair.cell[n][2] == OPERATION).collect();
@@ -345,10 +368,11 @@ fn lose_process(pair: &mut Pair, random: &mut Random) {
         2 => pair.cell[n][4] = random.number(3),
         _ => _ = pair.cell.remove(n),
     }
+    gates::drop_lone(&mut pair.cell);
 }
 
 /// Adds lines that change nothing, until there are so many: one that is there already, internal work that
-/// leads back to its state, or an operation that the recipe doesn't name.
+/// leads back to its state, or an operation that the recipe doesn't name. A gate isn't set a second time.
 fn fill_up(pair: &mut Pair, lines: usize, random: &mut Random) {
     let named: Vec<u32> = pair.recipe.iter().map(|row| row[2]).collect();
     let other = (0..64).find(|operation| !named.contains(operation));
@@ -356,6 +380,7 @@ fn fill_up(pair: &mut Pair, lines: usize, random: &mut Random) {
         let count = pair.cell.len();
         let mut row = pair.cell[random.below(count)].clone();
         match (random.below(3), other) {
+            _ if row[2] == GATE => (row[2], row[4]) = (INTERNAL, row[1]),
             (0, _) => (row[2], row[4]) = (INTERNAL, row[1]),
             (1, Some(other)) => (row[2], row[3]) = (OPERATION, other),
             _ => {}
@@ -387,7 +412,7 @@ fn small_pairs() {
         }
         // Some seeded cells have no place for a line, and some recipes have unreached points.
         match owed.refusal {
-            0 => lists.note(&records(&pair), &owed.processes),
+            0 => lists.note(&pair.records(), &owed.processes),
             UNREACHED => unreached += 1,
             _ => full += 1,
         }
@@ -409,7 +434,7 @@ fn sixty_three_lines_and_sixty_four() {
     let mut full = [[0; 2]; 2];
     for n in 0..FULL_PAIRS {
         let mut pair = lacking_pair(n, 200, &mut source, &mut random);
-        if !every_point_is_reached(&records(&pair).1) {
+        if !every_point_is_reached(&pair.records().1) {
             continue;
         }
         // Some seeded cells have 64 lines to begin with.
@@ -419,15 +444,15 @@ fn sixty_three_lines_and_sixty_four() {
             let owed = owed(&handed);
             let length = some_length(&owed.processes, &mut random);
             compare_lengths(handed, &owed, [length], &mut random);
-            lists.note(&records(&pair), &owed.processes);
+            lists.note(&pair.records(), &owed.processes);
         }
         fill_up(&mut pair, MOST_LINES, &mut random);
-        let handed = handed(&pair);
+        let handed = Handed::of_pair(&pair);
         let owed = owed(&handed);
         assert_eq!(owed.refusal, 21, "{handed}");
         let length = random.below(40);
         compare_lengths(handed, &owed, [length], &mut random);
-        let (cell, recipe) = records(&pair);
+        let (cell, recipe) = pair.records();
         let limited = usize::from(cell.limits != NO_LIMITS);
         full[limited][usize::from(realisable_by_single_moves(&cell, &recipe))] += 1;
     }
@@ -448,7 +473,7 @@ fn just_enough_scratch_and_one_byte_less() {
         if n % 4 == 0 {
             fill_up(&mut pair, MOST_LINES, &mut random);
         }
-        let mut handed = handed(&pair);
+        let mut handed = Handed::of_pair(&pair);
         let answer = owed(&handed);
         match (answer.refusal, answer.processes.is_empty()) {
             (0, true) => none_listed += 1,
@@ -479,11 +504,11 @@ fn just_enough_scratch_and_one_byte_less() {
 #[derive(Default)]
 struct Refusals {
     /// Calls by their refusal.
-    all: [usize; 23],
+    all: [usize; 24],
     /// Those on a record of 64 cell lines.
-    full: [usize; 23],
+    full: [usize; 24],
     /// Those on a table or a scratch that is too short for the positions, 13 and 22 among them.
-    short: [usize; 23],
+    short: [usize; 24],
 }
 
 impl Refusals {
@@ -513,7 +538,7 @@ impl Refusals {
                     continue;
                 }
                 0 => (300, 0),
-                21 | 22 => (1_000, 1_000),
+                21..=23 => (1_000, 1_000),
                 _ => (300, 100),
             };
             assert!(self.all[refusal] >= least, "{refusal} was seen too seldom");

@@ -71,8 +71,8 @@ struct Seen {
     /// Accepted files after which a resource has no limit that had one before.
     lifted: usize,
     /// Refusals of the file and of the record, by their number.
-    of_file: [usize; 21],
-    of_record: [usize; 21],
+    of_file: [usize; 24],
+    of_record: [usize; 24],
     /// Refusals 4 of a record for a limit alone.
     limit_past_range: usize,
     /// Refusals 20 of a file at the first value line and later.
@@ -111,7 +111,7 @@ impl Seen {
         let mut counts = vec![self.accepted, self.lifted, self.limit_past_range];
         counts.extend(self.lines_of_20);
         counts.extend([1, 2, 3, 4, 20].map(|n: usize| self.of_file[n]));
-        counts.extend([3, 4, 5, 6, 20].map(|n: usize| self.of_record[n]));
+        counts.extend([3, 4, 5, 6, 20, 23].map(|n: usize| self.of_record[n]));
         assert!(
             counts.iter().all(|&times| times >= LEAST_SEEN),
             "{counts:?}"
@@ -309,14 +309,16 @@ fn rules_are_tried_in_their_order_and_the_record_first() {
     assert_eq!(compare(&file, &cell), (2, 67));
     file[0] = b'R';
     assert_eq!(compare(&file, &cell), (1, 1));
-    // A limit of a resource that isn't there; cell line 2 with another port; line 4 of a resource with
-    // a gap before it; a limit out of range; line 2 of no act; too many lines; too few bytes.
+    // Cell line 3 a gate without its operation line; a limit of a resource that isn't there; line 2 with
+    // another port; line 4 of a resource with a gap before it; a limit out of range; line 2 of no act; too
+    // many lines; too few bytes.
     for (at, number, refusal) in [
+        (18, 4, 23),
         (limits + 5, 7, 20),
         (14, 6, 6),
         (21, 3, 5),
         (limits, 9, 4),
-        (13, 4, 4),
+        (13, 5, 4),
         (0, 65, 3),
     ] {
         cell[at] = number;

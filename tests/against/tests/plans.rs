@@ -79,9 +79,9 @@ fn the_bench_example_is_planned_and_followed() {
         assert_eq!(position(&run), end);
     };
     let start = [(0, 50_331_648, 0), (22, 33_554_561, 0)];
-    let passed = [(26, 50_331_651, 1), (50, 50_331_652, 0)];
+    let passed = [(26, 50_331_843, 1), (50, 50_331_652, 0)];
     follow(&[start, passed].concat(), 72);
-    let failed = [(26, 50_331_651, 0), (68, 50_331_652, 0)];
+    let failed = [(26, 50_331_843, 0), (68, 50_331_652, 0)];
     follow(&[start, failed].concat(), 0);
 }
 
@@ -371,7 +371,7 @@ fn shaped(resources: u32, parts: u32, points: u32) -> Handed {
 #[test]
 fn every_shape() {
     let mut random = Random::new(7);
-    let mut refusals = [0; 23];
+    let mut refusals = [0; 24];
     for resources in 1..=6 {
         for parts in 0..=8 {
             for points in 1..=16 {

@@ -10,8 +10,9 @@ use against::random::Random;
 use against::{scratches, TOO_SHORT, UNREACHED};
 use independent::{
     cell_bytes, cell_of_bytes, dense_pair, every_point_is_reached, is_overfull, joint_choices,
-    judge, kind_of, long_ways_pair, mixed_pair, odometer_pair, plan, recipe_bytes, scratch_bytes,
-    stored_table, Book, Cell, Recipe, Sizes, FEW_JOINT_CHOICES, MOST_POSITIONS, STAY,
+    judge, kind_of, letters_of, long_ways_pair, mixed_pair, odometer_pair, plan,
+    realisable_by_single_moves, recipe_bytes, scratch_bytes, stored_table, with_gates,
+    without_gates, Book, Cell, Recipe, Sizes, CARRY, FEW_JOINT_CHOICES, MOST_POSITIONS, STAY,
 };
 
 /// Small pairs of a cell and a recipe that are planned, but for those with an unreached point. Each is also
@@ -22,7 +23,7 @@ const DAMAGED: usize = 3;
 /// Pairs that are planned with scratches of every length near the least that will do: so many for each
 /// remainder of M modulo 8, out of so many seeded ones.
 const SCRATCH_PAIRS: usize = 150;
-const SCRATCH_SEEDS: usize = 20_000;
+const SCRATCH_SEEDS: usize = 24_000;
 
 /// Great pairs that are planned, each of more positions than this.
 const GREAT_PAIRS: usize = 50;
@@ -52,11 +53,12 @@ const TEST: u8 = 2;
 #[derive(Default)]
 struct Seen {
     /// Plan calls by their refusal.
-    refusals: [usize; 23],
+    refusals: [usize; 24],
     /// Plan calls refused with 4 for a limit alone.
     limits_past_range: usize,
     scratches: scratches::Seen,
     limited: Limited,
+    gated: Gated,
     /// Planned tables by R, P and N.
     resources: [usize; 7],
     parts: [usize; 9],
@@ -145,6 +147,63 @@ impl Limited {
     }
 }
 
+/// What was seen of planned tables of cells with gates.
+#[derive(Default)]
+struct Gated {
+    planned: usize,
+    accepted: usize,
+    /// Accepted ones with a test whose outcomes lead to different states.
+    parted: usize,
+    /// Of those whose recipe was also planned without gates: refused for the gates alone, and accepted for
+    /// them alone.
+    lost: usize,
+    gained: usize,
+}
+
+impl Gated {
+    fn note(&mut self, (cell, recipe, sizes): &(Cell, Recipe, Sizes), planned: &Planned) {
+        let accepted = planned.refusal == 0;
+        self.planned += 1;
+        self.accepted += usize::from(accepted);
+        let is_parted = |point: u8, entry: u32| {
+            let [a, b, ..] = letters_of(entry);
+            let is_test = recipe.kind[pairs::lines_at(recipe, point)[0]] == TEST;
+            is_test && kind_of(entry) == CARRY && cell.to[a] != cell.to[b]
+        };
+        let parted = (0..sizes.points as u8).any(|point| {
+            let mut entries = at_point(sizes, &planned.table, point).iter();
+            entries.any(|&entry| is_parted(point, entry))
+        });
+        self.parted += usize::from(accepted && parted);
+        if planned.table.len() <= FEW_POSITIONS {
+            let ungated = realisable_by_single_moves(&without_gates(cell), recipe);
+            self.lost += usize::from(!accepted && ungated);
+            self.gained += usize::from(accepted && !ungated);
+        }
+    }
+
+    /// Wants gates in a third of all planned tables, a third of these accepted, and enough of what gates can
+    /// change.
+    fn judge(&self, all: usize) {
+        assert!(3 * self.planned >= all, "too few cells have gates");
+        assert!(3 * self.accepted >= self.planned, "too few are accepted");
+        let seen = [self.parted, self.lost, self.gained];
+        let least = [1_000, 150, 300];
+        assert!((0..3).all(|n| seen[n] >= least[n]), "{seen:?}");
+    }
+
+    fn print(&self) {
+        println!(
+            "with gates {} planned, {} accepted, {} of them with a test whose outcomes part",
+            self.planned, self.accepted, self.parted
+        );
+        println!(
+            "{} refused for the gates alone, {} accepted for them alone",
+            self.lost, self.gained
+        );
+    }
+}
+
 impl Seen {
     /// Notes a plan call.
     fn note_call(&mut self, handed: &Handed, refusal: u32) {
@@ -176,6 +235,9 @@ impl Seen {
         if cell.limits != NO_LIMITS {
             self.limited.note(records, planned);
         }
+        if cell.has_gates() {
+            self.gated.note(records, planned);
+        }
     }
 
     fn note_accepted(&mut self, recipe: &Recipe, sizes: &Sizes, table: &[u32]) {
@@ -205,6 +267,7 @@ impl Seen {
         println!("plans by refusal {:?}", self.refusals);
         println!("{} of these 4 for a limit alone", self.limits_past_range);
         self.limited.print();
+        self.gated.print();
         println!("planned by R {:?}", &self.resources[1..]);
         println!("planned by P {:?}", self.parts);
         println!("planned by N {:?}", &self.points[1..]);
@@ -228,6 +291,10 @@ impl Seen {
             self.lists.silent,
             self.lists.overfull
         );
+        println!(
+            "tests with a gate by form and outcome {:?}",
+            self.lists.gates
+        );
     }
 
     /// Prints what was seen of small pairs and wants enough of everything.
@@ -240,10 +307,11 @@ impl Seen {
             }
         }
         assert!(self.refusals[20] >= 1_000 && self.limits_past_range >= 1_000);
-        assert!(self.refusals[22] >= 1_000);
+        assert!(self.refusals[22] >= 1_000 && self.refusals[23] >= 1_000);
         assert!(self.stored.iter().all(|&times| times >= 1_000));
         self.scratches.judge(1_000, 30);
         self.limited.judge();
+        self.gated.judge(self.parts.iter().sum());
         assert!(3 * self.accepted > SMALL_PAIRS);
         assert!(self.by_joint_steps > SMALL_PAIRS / 2 && self.mixed > SMALL_PAIRS / 4);
         for (name, seen) in [
@@ -261,6 +329,8 @@ impl Seen {
         assert!(lists.issued[1..4].iter().all(|&times| times >= 20_000));
         assert!(lists.next_moves[0] >= 100_000);
         assert!(lists.reports[17..].iter().all(|&times| times >= 10_000));
+        let mut gates = lists.gates.as_flattened().iter();
+        assert!(gates.all(|&times| times >= 1_000));
     }
 }
 
@@ -474,7 +544,7 @@ fn one_table_for_many_pairs() {
     let mut source = independent::Random(16);
     // Each pair is planned with what the one before has left.
     let (mut table, mut scratch) = (vec![0; 2_000], vec![0; 250]);
-    let mut refusals = [0; 23];
+    let mut refusals = [0; 24];
     for n in 0..3_400 {
         let (cell, recipe) = either_pair(n, 2_000, &mut source);
         let (before, scratch_before) = (table.clone(), scratch.clone());
@@ -539,6 +609,7 @@ fn dense_mixed_and_long() {
     let mixed = |lines, silent, seed| mixed_pair(lines, silent, &mut independent::Random(seed));
     for pair in [
         dense_pair(),
+        with_gates(dense_pair()),
         mixed(29, 14, 6),
         mixed(64, 52, 3),
         long_ways_pair(3, 5),
@@ -549,7 +620,7 @@ fn dense_mixed_and_long() {
         plan_and_follow(odometer_pair(stations), lists, &mut random, &mut seen);
     }
     seen.print();
-    assert_eq!((seen.refusals[0], seen.refusals[15]), (4, 3));
+    assert_eq!((seen.refusals[0], seen.refusals[15]), (5, 3));
     assert!(seen.lists.issued[1..4].iter().all(|&times| times >= 200));
     // No way to the last station's top is shorter.
     assert!(seen.lists.silent >= 399);

@@ -6,14 +6,14 @@ use against::pairs::{self, limits_leave_range, unlimited, Pair, NO_LIMITS};
 use against::random::Random;
 use against::rounds::{accepted, compare, Answers, Round, Table};
 use independent::{
-    cell_of_bytes, every_point_is_reached, is_open, is_overfull, kind_of, letters_of,
+    cell_of_bytes, entry_of, every_point_is_reached, is_open, is_overfull, kind_of, letters_of,
     recipe_of_bytes, run_bytes, run_of_bytes, Cell, Recipe, Run, Sizes, CARRY, MOST_POSITIONS,
     NO_LIMIT, RUN_BYTES, TRANSFER,
 };
 use std::ops::RangeInclusive;
 
 /// Pairs of a cell and a recipe, and rounds of calls on each.
-const PAIRS: usize = 5_000;
+const PAIRS: usize = 6_000;
 const ROUNDS: usize = 80;
 
 /// How many calls are made at least, and how often everything that must be seen is seen at least.
@@ -28,7 +28,7 @@ const TEST: u8 = 2;
 struct Seen {
     calls: usize,
     /// For check, next-move, report and place, how often each refusal came.
-    refusals: [[usize; 23]; 4],
+    refusals: [[usize; 24]; 4],
     /// How often each of these was accepted although the recipe has an unreached point.
     unreached: [usize; 4],
     /// Refusals 4 for a limit alone.
@@ -45,8 +45,13 @@ struct Seen {
     reports: [usize; 5],
     /// Carried dos of one to four lines.
     parallel: [usize; 5],
-    /// Tests by their outcome.
+    /// Tests by their outcome, and those of them whose outcomes lead to different states.
     tests: [usize; 2],
+    parted: [usize; 2],
+    /// Dos by a line that a test of it would leave by a gate elsewhere.
+    gated_dos: usize,
+    /// Entries at tests that nothing but the second letter shuts, without a gate and with one.
+    other_gates: [usize; 2],
     /// Transfers of no part, of one, and of several.
     handed_over: [usize; 3],
     /// Dos that give a part that the same step takes: on the same line, and on another.
@@ -73,6 +78,7 @@ impl Seen {
             }
         }
         self.note_limits(round, table, answers);
+        self.note_second_letter(round, table, answers);
         let entry = next_move as u32;
         if entry != 0 {
             self.moves[kind_of(entry) as usize] += 1;
@@ -111,6 +117,23 @@ impl Seen {
         }
     }
 
+    /// Notes an entry at a test that would be open with another second letter.
+    fn note_second_letter(&mut self, round: &Round, table: &Table, answers: &Answers) {
+        let (cell, recipe) = (cell_of_bytes(&round.cell), recipe_of_bytes(&round.recipe));
+        let Some(position) = round.position().filter(|_| answers.next_move >> 32 == 18) else {
+            return;
+        };
+        let run = run_of_bytes(&round.run);
+        let entry = table.entries()[position as usize];
+        let [a, b, c, d] = letters_of(entry);
+        let is_test = recipe.kind[pairs::lines_at(&recipe, run.point)[0]] == TEST;
+        let gate = cell.line_on_failure(a);
+        let other = entry_of(kind_of(entry), [a, gate, c, d]);
+        if is_test && b != gate && is_open(&cell, &recipe, run.point, &run.configuration, other) {
+            self.other_gates[usize::from(gate != a)] += 1;
+        }
+    }
+
     /// Notes a report that was made, or refused at an end.
     fn note_report(&mut self, round: &Round, entry: u32) {
         let (cell, recipe) = (cell_of_bytes(&round.cell), recipe_of_bytes(&round.recipe));
@@ -124,16 +147,21 @@ impl Seen {
             self.handed_over[parts.min(2)] += 1;
         }
         if kind == CARRY {
-            self.note_carry(&recipe, run.point, round.outcome);
+            self.note_carry(&cell, &recipe, entry, round);
         }
     }
 
-    fn note_carry(&mut self, recipe: &Recipe, point: u8, outcome: u8) {
-        let lines = pairs::lines_at(recipe, point);
+    fn note_carry(&mut self, cell: &Cell, recipe: &Recipe, entry: u32, round: &Round) {
+        let lines = pairs::lines_at(recipe, run_of_bytes(&round.run).point);
+        let is_parted = |&line: &usize| cell.to[line] != cell.to[cell.line_on_failure(line)];
+        let letters = letters_of(entry);
+        let parted = usize::from(letters[..lines.len()].iter().any(is_parted));
         if recipe.kind[lines[0]] == TEST {
-            self.tests[usize::from(outcome)] += 1;
+            self.tests[usize::from(round.outcome)] += 1;
+            self.parted[usize::from(round.outcome)] += parted;
             return;
         }
+        self.gated_dos += parted;
         self.parallel[lines.len()] += 1;
         let same = lines
             .iter()
@@ -151,16 +179,23 @@ impl Seen {
     fn judge(&self) {
         println!("{} calls", self.calls);
         assert!(self.calls >= LEAST_CALLS);
-        self.judge_refusals("check", 0, &[3..=13, 20..=20]);
-        self.judge_refusals("next-move", 1, &[3..=14, 16..=16, 18..=18, 20..=20]);
-        self.judge_refusals("report", 2, &[3..=14, 16..=20]);
-        self.judge_refusals("place", 3, &[3..=13, 16..=16, 20..=20]);
+        self.judge_refusals("check", 0, &[3..=13, 20..=20, 23..=23]);
+        self.judge_refusals(
+            "next-move",
+            1,
+            &[3..=14, 16..=16, 18..=18, 20..=20, 23..=23],
+        );
+        self.judge_refusals("report", 2, &[3..=14, 16..=20, 23..=23]);
+        self.judge_refusals("place", 3, &[3..=13, 16..=16, 20..=20, 23..=23]);
         for (name, seen) in [
             ("accepted with an unreached point", &self.unreached[..]),
             ("next-moves of kind 1 to 4", &self.moves[1..]),
             ("reports of kind 1 to 4", &self.reports[1..]),
             ("dos of 1 to 4 lines", &self.parallel[1..]),
             ("tests of outcome 0 and 1", &self.tests),
+            ("tests with a gate that leads elsewhere", &self.parted),
+            ("dos beside a gate that leads elsewhere", &[self.gated_dos]),
+            ("entries that the second letter shuts", &self.other_gates),
             ("transfers of no part, one, several", &self.handed_over),
             (
                 "dos that give what they take, here and there",
@@ -219,7 +254,7 @@ fn seeded_run((cell, recipe, sizes): &(Cell, Recipe, Sizes), random: &mut Random
         found.filter(|(run, _)| any_places || !is_overfull(cell, &run.configuration))
     });
     let (mut run, mut entry) = tries.unwrap_or_else(|| (pairs::any_run(sizes, random), 0));
-    match random.below(16) {
+    match random.below(18) {
         0..=2 => entry = pairs::other_entry(entry, cell, random),
         3 | 4 => pairs::other_configuration(&mut run, sizes, random),
         5 => {
@@ -229,6 +264,7 @@ fn seeded_run((cell, recipe, sizes): &(Cell, Recipe, Sizes), random: &mut Random
         }
         6 => run = pairs::any_run(sizes, random),
         7..=11 => pairs::crowd(&mut run, entry, cell, recipe, random),
+        12..=14 => entry = pairs::other_second_letter(entry, cell, random),
         _ => {}
     }
     (run, entry)

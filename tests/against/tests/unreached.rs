@@ -12,9 +12,12 @@ use against::random::Random;
 use against::rounds::{accepted, compare, Round, Table};
 use against::{same_reading, CellFile, Format, RecipeFile};
 use independent::{
-    cell_of_bytes, check, reached_points, realisable_by_single_moves, recipe_of_bytes, run_bytes,
-    stored_table, Book, Cell, Recipe, MOST_LINES, MOST_RESOURCES, RUN_BYTES,
+    check, reached_points, realisable_by_single_moves, run_bytes, stored_table, Book, MOST_LINES,
+    MOST_RESOURCES, RUN_BYTES,
 };
+
+/// The act of a gate.
+const GATE: u32 = 4;
 
 /// Recipes with which each of the ways below is tried, and how often each must at least be seen.
 const REFUSED: usize = 2_500;
@@ -41,20 +44,9 @@ fn forgetful_pair(n: usize, source: &mut independent::Random, random: &mut Rando
     pair
 }
 
-/// The records of a pair.
-fn records(pair: &Pair) -> (Cell, Recipe) {
-    let (cell, recipe) = (pair.cell_bytes(), pair.recipe_bytes());
-    (cell_of_bytes(&cell), recipe_of_bytes(&recipe))
-}
-
-/// A call on a pair that passes the rules 3 to 13, with just enough lent.
-fn enough(pair: &Pair) -> Handed {
-    Handed::of(pair.cell_bytes(), pair.recipe_bytes())
-}
-
 /// A call on a pair that breaks this one of the rules 3 to 13; none if it doesn't.
 fn refused(pair: &Pair, rule: u8, random: &mut Random) -> Option<Handed> {
-    let (cell, recipe) = records(pair);
+    let (cell, recipe) = pair.records();
     (check(&cell, &recipe) == rule).then(|| Handed {
         cell: pair.cell_bytes(),
         recipe: pair.recipe_bytes(),
@@ -85,37 +77,35 @@ fn limit_above(mut pair: Pair, random: &mut Random) -> Option<Handed> {
 }
 
 fn short_table(pair: Pair, random: &mut Random) -> Option<Handed> {
-    let mut handed = enough(&pair);
+    let mut handed = Handed::of_pair(&pair);
     handed.entries -= 1 + random.below(handed.entries);
     Some(handed)
 }
 
 fn short_scratch(pair: Pair, random: &mut Random) -> Option<Handed> {
-    let mut handed = enough(&pair);
+    let mut handed = Handed::of_pair(&pair);
     handed.scratch -= 1 + random.below(handed.scratch);
     Some(handed)
 }
 
-/// Wants an operation at point 0 that the cell hasn't, unless the recipe ends there.
+/// Wants an operation that the cell hasn't.
 fn not_realisable(mut pair: Pair, _: &mut Random) -> Option<Handed> {
-    let unknown = (0..64).find(|&number| pair.cell.iter().all(|row| row[3] != number))?;
-    let first = pair.recipe.iter_mut();
-    first
-        .filter(|row| row[0] == 0 && row[1] != 0)
-        .for_each(|row| row[2] = unknown);
-    let (cell, recipe) = records(&pair);
-    (!realisable_by_single_moves(&cell, &recipe)).then(|| enough(&pair))
+    let spoiled = pair.want_unknown_operation();
+    spoiled.then(|| Handed::of_pair(&pair))
 }
 
 fn realisable(pair: Pair, _: &mut Random) -> Option<Handed> {
-    let (cell, recipe) = records(&pair);
-    realisable_by_single_moves(&cell, &recipe).then(|| enough(&pair))
+    let (cell, recipe) = pair.records();
+    realisable_by_single_moves(&cell, &recipe).then(|| Handed::of_pair(&pair))
 }
 
-/// Says everything more than once, so that the cell has no place for a line.
+/// Says everything more than once but for the gates, so that the cell has no place for a line.
 fn full_cell(mut pair: Pair, _: &mut Random) -> Option<Handed> {
-    pair.cell = pair.cell.into_iter().cycle().take(MOST_LINES).collect();
-    Some(enough(&pair))
+    let others = pair.cell.clone().into_iter().filter(|row| row[2] != GATE);
+    let again: Vec<Vec<u32>> = others.collect();
+    let missing = MOST_LINES - pair.cell.len();
+    pair.cell.extend(again.into_iter().cycle().take(missing));
+    Some(Handed::of_pair(&pair))
 }
 
 /// Makes of a pair with an unreached point a call that breaks another rule too; none if it can't.

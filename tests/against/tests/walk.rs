@@ -21,6 +21,7 @@ use std::time::Duration;
 
 const BENCH_CELL: &str = include_str!("../../../examples/bench/cell.csv");
 const BENCH_RECIPE: &str = include_str!("../../../examples/bench/recipe.csv");
+const GATE_CELL: &str = include_str!("../../../examples/gate/cell.csv");
 
 /// How many bytes of a file are read.
 const FILE_BYTES: usize = 8192;
@@ -34,8 +35,8 @@ const LEAST_MOVES: usize = 4_000;
 
 /// Every refusal that a plan and the outcomes can lead to. A run that `walk` itself begins and a table
 /// that it has planned are never refused with 16 or 18.
-const REFUSALS: [usize; 18] = [
-    1, 2, 3, 4, 5, 6, 7, 8, 9, 10, 11, 12, 13, 14, 15, 17, 19, 22,
+const REFUSALS: [usize; 19] = [
+    1, 2, 3, 4, 5, 6, 7, 8, 9, 10, 11, 12, 13, 14, 15, 17, 19, 22, 23,
 ];
 
 fn root() -> &'static Path {
@@ -225,9 +226,9 @@ fn some_case(random: &mut Random) -> Case {
     let (mut cell_rows, mut recipe_rows) = (cell_rows, recipe_rows);
     let change = random.below(16);
     match change {
-        0 => CellFile::break_rule(random.choose(&[4, 5, 6]), &mut cell_rows, random),
+        0 => CellFile::break_rule(random.choose(&[4, 5, 6, 23]), &mut cell_rows, random),
         1..=3 => {
-            let rule = random.choose(&[4, 7, 8, 9, 10, 11, 12]);
+            let rule = random.choose(&[4, 7, 8, 9, 10, 11, 11, 12]);
             RecipeFile::break_rule(rule, &mut recipe_rows, random);
         }
         _ => (),
@@ -267,7 +268,7 @@ fn some_case(random: &mut Random) -> Case {
 fn seeded_files_and_inputs() {
     let mut random = Random::new(41);
     let folder = folder("seeded");
-    let mut seen = [0; 23];
+    let mut seen = [0; 24];
     let mut moves = 0;
     for _ in 0..RUNS {
         let printed = some_case(&mut random).compare(&folder);
@@ -305,10 +306,33 @@ fn the_stored_run_is_the_bench_example() {
     assert_eq!(case.compare(&folder("bench")), stored("stdout").as_bytes());
 }
 
+/// The stored output of this name.
+fn stored_output(name: &str) -> Vec<u8> {
+    let expected = Path::new(env!("CARGO_MANIFEST_DIR")).join(format!("expected/{name}.txt"));
+    fs::read(expected).expect("the expected output is there")
+}
+
+#[test]
+fn tests_with_and_without_a_reject_gate() {
+    let folder = folder("gate");
+    for (cell, input, name) in [
+        (BENCH_CELL, "0010", "walk_bench"),
+        (BENCH_CELL, "00002", "walk_rework"),
+        (GATE_CELL, "0010", "walk_gate"),
+        (GATE_CELL, "00000", "walk_gate_opens"),
+    ] {
+        let case = Case::new(cell, BENCH_RECIPE, input);
+        let printed = case.compare(&folder);
+        assert_eq!(printed, stored_output(name), "{name}");
+    }
+    let lone = format!("{BENCH_CELL}1,1,4,3,0\n");
+    let case = Case::new(&lone, BENCH_RECIPE, "0010");
+    assert_eq!(refusal(&case.compare(&folder)), Some(23));
+}
+
 #[test]
 fn points_that_nothing_leads_to() {
-    let expected = Path::new(env!("CARGO_MANIFEST_DIR")).join("expected/walk_unreached.txt");
-    let expected = fs::read(expected).expect("the expected output is there");
+    let expected = stored_output("walk_unreached");
     let folder = folder("unreached");
     for pasted in [PASTED_END, PASTED_LOOP] {
         let recipe = format!("{BENCH_RECIPE}{pasted}");

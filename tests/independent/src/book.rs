@@ -57,6 +57,15 @@ impl<'a> Book<'a> {
         is_overfull(self.cell, &self.configuration)
     }
 
+    /// Whether the book's move is open and a test of which outcome 0 follows a gate.
+    pub fn is_at_gate(&self) -> bool {
+        let has_gate = |entry| {
+            let [a, b, ..] = letters_of(entry);
+            kind_of(entry) == CARRY && a != b
+        };
+        self.kind() == TEST && self.open_move().is_some_and(has_gate)
+    }
+
     /// The point and the configuration that the book keeps.
     pub fn run(&self) -> Run {
         Run {
@@ -155,8 +164,10 @@ impl<'a> Book<'a> {
         let (kind, first) = (self.kind(), self.first_line());
         let points = &self.recipe.point[first..usize::from(self.recipe.count)];
         let lines = points.iter().take_while(|&&p| p == self.point).count();
-        for &letter in &letters[..lines] {
-            self.take(letter);
+        match (kind, outcome) {
+            (TEST, 0) => self.take(letters[1]),
+            (TEST, _) => self.take(letters[0]),
+            _ => letters[..lines].iter().for_each(|&line| self.take(line)),
         }
         if kind == DO {
             for n in first..first + lines {
@@ -187,7 +198,7 @@ impl<'a> Book<'a> {
 #[cfg(test)]
 mod tests {
     use super::*;
-    use crate::fixtures::{bench, bench_table, lane, limited, some_table};
+    use crate::fixtures::{bench, bench_table, gate, lane, limited, planned, some_table};
     use crate::random::Random;
 
     /// Feeds a list of calls to the run and to the book and compares every answer. Gives how many
@@ -227,7 +238,7 @@ mod tests {
         let mut issued = [0; 5];
         let (cell, recipe) = lane();
         let narrow = (limited(cell, &[2, 1, 1]), recipe);
-        for example in [bench(), lane(), narrow] {
+        for example in [bench(), lane(), narrow, gate()] {
             let positions = Sizes::of(&example.0, &example.1).positions;
             for _ in 0..5 {
                 let table = some_table(&example.0, &example.1, &mut random);
@@ -261,6 +272,25 @@ mod tests {
                 assert_eq!(refusal, if at_end { 19 } else { 0 });
                 assert!(book.silent_moves() < 6 * 3);
             }
+        }
+    }
+
+    #[test]
+    fn outcome_0_of_a_test_follows_the_gate() {
+        let (cell, recipe) = gate();
+        let (_, table) = planned(&cell, &recipe);
+        for (outcome, point, state) in [(0, 3, 3), (1, 2, 2)] {
+            let mut book = Book::new(&cell, &recipe, &table);
+            for at_gate in [false, false, true] {
+                assert_eq!(book.is_at_gate(), at_gate);
+                assert_eq!(book.report(outcome).refusal, 0);
+            }
+            assert!(!book.is_at_gate());
+            let run = book.run();
+            assert_eq!((run.point, run.configuration.states[1]), (point, state));
+            // The part is taken from there at either outcome.
+            assert_eq!(run.configuration.places[0], 2);
+            assert_eq!(book.report(0).run.configuration, Configuration::START);
         }
     }
 

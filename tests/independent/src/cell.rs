@@ -5,7 +5,7 @@ use crate::sizes::{MOST_PARTS, MOST_RESOURCES};
 use crate::table::{
     leaves_range, read_columns, try_count, try_lines, Columns, Reading, Refusal, MOST_LINES,
 };
-use std::ops::RangeInclusive;
+use std::ops::{Range, RangeInclusive};
 
 /// The names line with its byte 10.
 pub const CELL_NAMES: &[u8] = b"resource,from,act,arg,to\n";
@@ -17,7 +17,7 @@ pub const CELL_BYTES: usize = LIMITS_AT + MOST_RESOURCES;
 const LIMITS_AT: usize = 1 + 5 * MOST_LINES;
 
 /// Each column's range.
-const RANGES: [RangeInclusive<u8>; 5] = [0..=5, 0..=7, 0..=3, 0..=63, 0..=7];
+const RANGES: [RangeInclusive<u8>; 5] = [0..=5, 0..=7, 0..=4, 0..=63, 0..=7];
 
 /// The range of a limit.
 pub(crate) const LIMIT_RANGE: RangeInclusive<u8> = 1..=NO_LIMIT;
@@ -29,6 +29,8 @@ pub(crate) const INTERNAL: u8 = 0;
 pub(crate) const OPERATION: u8 = 1;
 pub(crate) const IN: u8 = 2;
 pub(crate) const OUT: u8 = 3;
+/// Where a test's outcome 0 ends; its outcome 1, and a do, end where the operation line says.
+pub(crate) const GATE: u8 = 4;
 
 /// The value lines of a cell file, an array for each column, and the most parts that each resource may
 /// hold. What stands past `count` lines counts for nothing.
@@ -69,6 +71,34 @@ impl Cell {
         ]
     }
 
+    /// Puts a line of this number, in the order of the columns.
+    pub(crate) fn set_line(&mut self, n: usize, [resource, from, act, arg, to]: [u8; 5]) {
+        self.resource[n] = resource;
+        self.from[n] = from;
+        self.act[n] = act;
+        self.arg[n] = arg;
+        self.to[n] = to;
+    }
+
+    /// Whether two lines are of one resource and have the same from and arg.
+    fn begin_alike(&self, one: usize, other: usize) -> bool {
+        let begin = |n: usize| (self.resource[n], self.from[n], self.arg[n]);
+        begin(one) == begin(other)
+    }
+
+    /// Whether some line of the cell is a gate.
+    pub fn has_gates(&self) -> bool {
+        self.act[..usize::from(self.count)].contains(&GATE)
+    }
+
+    /// The line that outcome 0 follows of a test which this operation line carries: the gate that begins
+    /// alike, or the operation line itself if there is none.
+    pub fn line_on_failure(&self, operation: usize) -> usize {
+        let mut lines = 0..usize::from(self.count);
+        let gate = lines.find(|&n| self.act[n] == GATE && self.begin_alike(n, operation));
+        gate.unwrap_or(operation)
+    }
+
     /// R, the greatest resource number plus 1, of a cell with lines.
     pub(crate) fn resources(&self) -> usize {
         let resources = &self.resource[..usize::from(self.count)];
@@ -76,7 +106,7 @@ impl Cell {
     }
 }
 
-/// Reads a cell file by the rules 1 to 6.
+/// Reads a cell file by the rules 1 to 6 and 23.
 pub fn read_cell(file: &[u8]) -> CellReading {
     match read(file) {
         Ok(record) => Reading {
@@ -103,10 +133,11 @@ fn read(file: &[u8]) -> Result<Cell, Refusal> {
         limits: Cell::EMPTY.limits,
     };
     try_stations(&cell)?;
+    try_gates(&cell)?;
     Ok(cell)
 }
 
-/// The first of the rules 3 to 6 and 20 that a record breaks.
+/// The first of the rules 3 to 6, 20 and 23 that a record breaks.
 pub fn check_cell(cell: &Cell) -> Refusal {
     check(cell).err().unwrap_or(Refusal::NONE)
 }
@@ -124,7 +155,7 @@ fn check(cell: &Cell) -> Result<(), Refusal> {
     if not_there.iter().any(|&most| most != NO_LIMIT) {
         return Err(Refusal::of_whole(20));
     }
-    Ok(())
+    try_gates(cell)
 }
 
 /// Rules 5 and 6, for a record that passes the rules 3 and 4.
@@ -158,6 +189,18 @@ fn try_stations(cell: &Cell) -> Result<(), Refusal> {
     })
 }
 
+/// Rule 23: a gate has an operation line that begins alike, and there is no earlier gate that does.
+fn try_gates(cell: &Cell) -> Result<(), Refusal> {
+    let count = usize::from(cell.count);
+    let alike = |act: u8, lines: Range<usize>, gate: usize| {
+        let mut lines = lines.filter(|&n| cell.act[n] == act);
+        lines.any(|n| cell.begin_alike(n, gate))
+    };
+    try_lines(23, count, |n| {
+        cell.act[n] == GATE && (!alike(OPERATION, 0..count, n) || alike(GATE, 0..n, n))
+    })
+}
+
 /// The record as bytes: the line count, then 64 times `resource, from, act, arg, to`, then the limits.
 pub fn cell_bytes(cell: &Cell) -> [u8; CELL_BYTES] {
     let mut bytes = [0; CELL_BYTES];
@@ -175,12 +218,9 @@ pub fn cell_of_bytes(bytes: &[u8]) -> Cell {
     let mut cell = Cell::EMPTY;
     if let Some(bytes) = bytes.get(..CELL_BYTES) {
         cell.count = bytes[0];
-        for (n, line) in bytes[1..LIMITS_AT].chunks_exact(5).enumerate() {
-            cell.resource[n] = line[0];
-            cell.from[n] = line[1];
-            cell.act[n] = line[2];
-            cell.arg[n] = line[3];
-            cell.to[n] = line[4];
+        let (lines, _) = bytes[1..LIMITS_AT].as_chunks();
+        for (n, &line) in lines.iter().enumerate() {
+            cell.set_line(n, line);
         }
         cell.limits.copy_from_slice(&bytes[LIMITS_AT..]);
     }
@@ -309,7 +349,7 @@ mod tests {
         for bad in [
             "6,0,1,1,1",
             "0,8,1,1,1",
-            "0,0,4,1,1",
+            "0,0,5,1,1",
             "0,0,1,64,1",
             "0,0,1,1,8",
             "256,0,1,1,1",
@@ -355,6 +395,73 @@ mod tests {
             (6, 3)
         );
         assert_eq!(refusal_of_lines(&["0,0,2,5,0", "1,0,3,5,0"]), (0, 0));
+    }
+
+    /// The refusal of the bench cell with these lines behind its own.
+    fn refusal_behind_bench(lines: &[&str]) -> (u8, usize) {
+        refusal_of_lines(&[&BENCH[..], lines].concat())
+    }
+
+    #[test]
+    fn rule_23_wants_an_operation_line_that_begins_as_a_gate_does() {
+        assert_eq!(refusal_behind_bench(&["1,1,4,2,2"]), (0, 0));
+        assert_eq!(refusal_behind_bench(&["1,1,4,2,7"]), (0, 0));
+        // Another operation, from another state, at another station.
+        for gate in ["1,1,4,3,0", "1,0,4,2,0", "0,1,4,2,0"] {
+            assert_eq!(refusal_behind_bench(&[gate]), (23, 7), "{gate}");
+        }
+        // Internal work, an in, an out and a gate are no operation.
+        for other in [0, 2, 3, 4] {
+            let other = format!("0,0,{other},1,0");
+            let lines = ["0,0,4,1,0", &other, "1,0,3,1,0", "2,0,2,1,0"];
+            assert_eq!(refusal_of_lines(&lines), (23, 2), "{other}");
+        }
+        // The operation line may stand before the gate or behind it.
+        assert_eq!(refusal_of_lines(&["0,0,4,1,0", "0,0,1,1,1"]), (0, 0));
+        assert_eq!(refusal_of_lines(&["0,0,1,1,1", "0,0,4,1,0"]), (0, 0));
+    }
+
+    #[test]
+    fn rule_23_wants_one_gate_for_all_that_begins_alike() {
+        let two = ["1,1,4,2,0", "1,1,4,2,1"];
+        assert_eq!(refusal_behind_bench(&two), (23, 8));
+        assert_eq!(refusal_behind_bench(&["1,1,4,2,0"; 3]), (23, 8));
+        // Two operation lines may share a gate, and several gates have an operation line each.
+        let shared = ["1,1,1,2,0", "1,1,4,2,0"];
+        assert_eq!(refusal_behind_bench(&shared), (0, 0));
+        let apart = ["1,2,4,3,1", "1,1,4,2,1", "0,0,4,1,0"];
+        assert_eq!(refusal_behind_bench(&apart), (0, 0));
+        // Of two faults the first counts, whichever it is.
+        let alone = "1,1,4,3,0";
+        assert_eq!(refusal_behind_bench(&[two[0], alone, two[1]]), (23, 8));
+        assert_eq!(refusal_behind_bench(&[two[0], two[1], alone]), (23, 8));
+        assert_eq!(refusal_behind_bench(&[alone, two[0], two[1]]), (23, 7));
+    }
+
+    #[test]
+    fn gates_count_for_the_rules_3_to_6() {
+        // A gate is a line of its resource.
+        assert_eq!(refusal_of_lines(&["0,0,1,1,0", "2,0,4,1,0"]), (5, 0));
+        assert_eq!(refusal_of_lines(&["0,0,4,1,0", "1,0,1,1,0"]), (23, 2));
+        assert_eq!(refusal_of_lines(&["0,0,1,1,0", "1,0,4,1,0"]), (23, 3));
+        // It is no partner on a port.
+        assert_eq!(refusal_of_lines(&["0,0,2,1,0", "1,0,4,1,0"]), (6, 2));
+        let full = [&["0,0,1,1,0"; 63][..], &["0,0,4,1,0"]].concat();
+        assert_eq!(refusal_of_lines(&full), (0, 0));
+        assert_eq!(refusal_of_lines(&[&full[..], &[full[63]]].concat()), (3, 0));
+        assert_eq!(refusal_of_lines(&["0,0,4,64,0"]), (4, 2));
+    }
+
+    #[test]
+    fn outcome_0_follows_the_gate_that_begins_as_the_operation_line_does() {
+        let lines = ["1,1,4,2,0", "1,1,1,2,1", "0,0,4,1,0", "1,2,4,3,0"];
+        let cell = read_cell(&file(&[&BENCH[..], &lines].concat())).record;
+        assert_eq!([0, 3, 4, 6].map(|n| cell.line_on_failure(n)), [7, 5, 8, 5]);
+        let bench = bench_record();
+        assert_eq!([0, 3, 4].map(|n| bench.line_on_failure(n)), [0, 3, 4]);
+        // What stands past the lines counts for nothing.
+        let fewer = Cell { count: 5, ..cell };
+        assert_eq!([0, 3, 4].map(|n| fewer.line_on_failure(n)), [0, 3, 4]);
     }
 
     #[test]
@@ -409,13 +516,14 @@ mod tests {
     }
 
     #[test]
-    fn limits_are_tried_after_the_lines_ranges_and_after_rule_6() {
+    fn limits_are_tried_after_the_lines_ranges_and_after_rule_6_and_before_23() {
         let mut cell = bench_record();
         let mut expect = |change: fn(&mut Cell), number, line| {
             change(&mut cell);
             assert_eq!(check_cell(&cell), Refusal { number, line });
         };
         // Each change breaks a rule before all those that were broken so far.
+        expect(|cell| cell.act[3] = GATE, 23, 5);
         expect(|cell| cell.limits[2] = 7, 20, 0);
         expect(|cell| cell.arg[2] = 6, 6, 3);
         expect(|cell| cell.resource[4] = 3, 5, 0);

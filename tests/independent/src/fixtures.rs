@@ -26,6 +26,15 @@ pub(crate) const BENCH_RECIPE: [&str; 5] = [
     "4,0,0,0,0,0,0",
 ];
 
+/// A test of which each outcome goes on by an operation of its own.
+pub(crate) const FORK: [&str; 5] = [
+    "0,1,1,0,1,1,0",
+    "1,2,2,1,0,2,3",
+    "2,1,3,1,0,4,0",
+    "3,1,4,1,0,4,0",
+    "4,0,0,0,0,0,0",
+];
+
 /// Points that are pasted behind the bench example's recipe and forgotten: an end, and two dos that lead
 /// to each other.
 pub(crate) const PASTED_END: [&str; 1] = ["5,0,0,0,0,0,0"];
@@ -61,12 +70,22 @@ pub(crate) fn bench_with(pasted: &[&str]) -> (Cell, Recipe) {
     (cell_of(&BENCH_CELL), recipe)
 }
 
+/// Behind the bench example's cell lines: a reject gate at its test, which leads to a state of its own, and
+/// the operation that goes on from there.
+pub(crate) const GATE_LINES: [&str; 2] = ["1,1,4,2,3", "1,3,1,3,0"];
+
+/// The bench example with a reject gate.
+pub(crate) fn gate() -> (Cell, Recipe) {
+    let cell = cell_of(&[&BENCH_CELL[..], &GATE_LINES].concat());
+    (cell, recipe_of(&BENCH_RECIPE))
+}
+
 /// The bench example's table, as far as a run from the start can come.
 pub(crate) fn bench_table() -> Vec<u32> {
     let mut table = vec![0; 90];
     table[0] = 50_331_648;
     table[22] = 33_554_561;
-    table[26] = 50_331_651;
+    table[26] = 50_331_843;
     table[50] = 50_331_652;
     table[68] = 50_331_652;
     table[72] = 67_108_864;

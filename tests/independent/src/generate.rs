@@ -1,7 +1,7 @@
 //! Cells and recipes that fit each other, many of which are realisable. A recipe is written along a
 //! walk through its cell, so that there is a way for it; then some pairs are damaged in a place or
-//! more. There are cells with limits and without. One recipe in ten has points that are not reached from
-//! point 0, the others have none.
+//! more. There are cells with limits and without, and more than a third of them have gates. One recipe in
+//! ten has points that are not reached from point 0, the others have none.
 
 mod cell_lines;
 mod chains;
@@ -10,10 +10,10 @@ mod walk;
 
 pub use chains::chain_pair;
 pub use great::{
-    dense_pair, gap_pair, long_ways_pair, mixed_pair, odometer_pair, stations_reversed,
+    dense_pair, gap_pair, long_ways_pair, mixed_pair, odometer_pair, stations_reversed, with_gates,
 };
 
-use crate::cell::{cell_bytes, cell_of_bytes, Cell, NO_LIMIT};
+use crate::cell::{cell_bytes, cell_of_bytes, Cell, GATE, NO_LIMIT};
 use crate::random::Random;
 use crate::recipe::{
     every_point_is_reached, recipe_of_bytes, Recipe, END, MOST_PARALLEL, RECIPE_BYTES,
@@ -39,6 +39,13 @@ const MOST_TRIES: usize = 4;
 /// One recipe in so many has unreached points.
 const FORGETFUL: usize = 10;
 
+/// What a cell may have beside its lines of the first four acts.
+#[derive(Clone, Copy)]
+struct Extras {
+    limits: bool,
+    gates: bool,
+}
+
 /// A cell without limits and a recipe, of at most this many positions, 50 or more, that pass the rules
 /// 3 to 13.
 pub fn likely_pair(most_positions: u64, random: &mut Random) -> (Cell, Recipe) {
@@ -50,19 +57,22 @@ pub fn limited_pair(most_positions: u64, random: &mut Random) -> (Cell, Recipe) 
     pair(most_positions, true, random)
 }
 
-fn pair(most_positions: u64, limited: bool, random: &mut Random) -> (Cell, Recipe) {
+fn pair(most_positions: u64, limits: bool, random: &mut Random) -> (Cell, Recipe) {
     // A planner refuses every recipe with an unreached point, so chance alone would leave too few others.
     let forgets = random.once_in(FORGETFUL);
+    // Not every cell has an operation at which there can be a gate, and some lose theirs.
+    let gates = random.choose(&[true, true, false, false]);
+    let extras = Extras { limits, gates };
     let is_wanted = |recipe: &Recipe| every_point_is_reached(recipe) != forgets;
     let likely = loop {
-        let lines = likely_lines(most_positions, limited, random);
+        let lines = likely_lines(most_positions, extras, random);
         if is_wanted(&recipe_of_lines(&lines.recipe)) {
             break lines;
         }
     };
     let tries = random.choose(&[0, 8]);
     for _ in 0..tries {
-        let (cell, recipe) = damaged_pair(likely.clone(), limited, random);
+        let (cell, recipe) = damaged_pair(likely.clone(), extras, random);
         let fits = || Sizes::of(&cell, &recipe).positions <= most_positions;
         if check(&cell, &recipe) == 0 && fits() && is_wanted(&recipe) {
             return (cell, recipe);
@@ -83,27 +93,31 @@ struct Lines {
 }
 
 /// The lines of a cell and of a recipe for which there is a way, unless its points were too few or the
-/// limits were not looked at.
-fn likely_lines(most_positions: u64, limited: bool, random: &mut Random) -> Lines {
+/// limits or the gates were not looked at.
+fn likely_lines(most_positions: u64, extras: Extras, random: &mut Random) -> Lines {
     let only_ends = random.below(40);
     let mut tries = 0;
     loop {
-        let shape = likely_shape(most_positions, limited, random);
-        let cell = cell_lines::cell_lines(&shape, random);
-        let limits = match limited {
+        let shape = likely_shape(most_positions, extras, random);
+        let cell = cell_lines::cell_lines(&shape, extras, random);
+        let limits = match extras.limits {
             true => some_limits(shape.states.len(), random),
             false => NO_LIMITS,
         };
-        let looked_at = match limited && random.once_in(3) {
+        let looked_at = match extras.limits && random.once_in(3) {
             true => NO_LIMITS,
             false => limits,
         };
+        let mut looked_at = limited_cell(&cell, looked_at);
+        if extras.gates && random.once_in(3) {
+            looked_at = without_gates(&looked_at);
+        }
         let recipe = match only_ends {
             0 => vec![END_LINE],
             1 => (0..shape.points as u8)
                 .map(|point| numbered(END_LINE, point))
                 .collect(),
-            _ => walk::recipe_lines(&limited_cell(&cell, looked_at), &shape, random),
+            _ => walk::recipe_lines(&looked_at, &shape, random),
         };
         tries += 1;
         if recipe.len() > 1 || only_ends < 2 || tries == MOST_TRIES {
@@ -116,11 +130,14 @@ fn likely_lines(most_positions: u64, limited: bool, random: &mut Random) -> Line
     }
 }
 
-/// A shape, with limits one of several parts, as one alone fills no station past its limit.
-fn likely_shape(most_positions: u64, limited: bool, random: &mut Random) -> Shape {
+/// A shape, with limits one of several parts, as one alone fills no station past its limit, and with gates
+/// one in which most stations have states to choose from.
+fn likely_shape(most_positions: u64, extras: Extras, random: &mut Random) -> Shape {
     loop {
         let shape = Shape::new(most_positions, random);
-        if !limited || shape.parts > 1 {
+        let several = shape.states.iter().filter(|&&count| count > 1).count();
+        let choose = 3 * several >= 2 * shape.states.len();
+        if (shape.parts > 1 || !extras.limits) && (choose || !extras.gates) {
             return shape;
         }
     }
@@ -206,8 +223,8 @@ impl Shape {
     }
 }
 
-/// The pair with up to three lines changed or left out, or limits lowered.
-fn damaged_pair(lines: Lines, limited: bool, random: &mut Random) -> (Cell, Recipe) {
+/// The pair with up to three lines changed or left out, or limits lowered, or other ends of gates.
+fn damaged_pair(lines: Lines, extras: Extras, random: &mut Random) -> (Cell, Recipe) {
     let Lines {
         mut cell,
         mut limits,
@@ -216,7 +233,11 @@ fn damaged_pair(lines: Lines, limited: bool, random: &mut Random) -> (Cell, Reci
     for _ in 0..1 + random.below(3) {
         let cell_line = random.below(cell.len());
         let recipe_line = random.below(recipe.len());
-        if limited && random.once_in(2) {
+        if extras.gates && random.once_in(3) {
+            turn_gate(&mut cell, random);
+            continue;
+        }
+        if extras.limits && random.once_in(2) {
             let most = &mut limits[usize::from(cell[cell_line][0])];
             *most = 1 + random.below(usize::from(*most).min(4)) as u8;
             continue;
@@ -232,6 +253,14 @@ fn damaged_pair(lines: Lines, limited: bool, random: &mut Random) -> (Cell, Reci
         }
     }
     (limited_cell(&cell, limits), recipe_of_lines(&recipe))
+}
+
+/// Leads some gate, if there is one, to another state.
+fn turn_gate(cell: &mut [CellLine], random: &mut Random) {
+    let gates: Vec<usize> = (0..cell.len()).filter(|&n| cell[n][2] == GATE).collect();
+    if !gates.is_empty() {
+        cell[random.choose(&gates)][4] = random.below(4) as u8;
+    }
 }
 
 /// A recipe line with another point.
@@ -254,6 +283,18 @@ fn cell_of_lines(lines: &[CellLine]) -> Cell {
         at.copy_from_slice(line);
     }
     cell_of_bytes(&bytes)
+}
+
+/// The cell with those of its lines that `keep` names, and with its limits.
+fn keeping(cell: &Cell, keep: impl Fn(usize) -> bool) -> Cell {
+    let kept = (0..usize::from(cell.count)).filter(|&n| keep(n));
+    let lines: Vec<CellLine> = kept.map(|n| cell.line(n)).collect();
+    limited_cell(&lines, cell.limits)
+}
+
+/// The cell without its gates.
+pub fn without_gates(cell: &Cell) -> Cell {
+    keeping(cell, |n| cell.act[n] != GATE)
 }
 
 fn recipe_of_lines(lines: &[RecipeLine]) -> Recipe {
@@ -305,8 +346,8 @@ mod tests {
         found
     }
 
-    /// Whether the planned moves from the start have a transfer among them, whatever the outcomes.
-    fn uses_a_transfer(cell: &Cell, recipe: &Recipe, table: &[u32]) -> bool {
+    /// The positions to which the planned moves from the start lead, whatever the outcomes.
+    fn met_from_start(cell: &Cell, recipe: &Recipe, table: &[u32]) -> Vec<u64> {
         let sizes = Sizes::of(cell, recipe);
         let mut met = vec![0];
         let mut n = 0;
@@ -320,7 +361,27 @@ mod tests {
             }
             n += 1;
         }
+        met
+    }
+
+    /// Whether the planned moves from the start have a transfer among them, whatever the outcomes.
+    fn uses_a_transfer(cell: &Cell, recipe: &Recipe, table: &[u32]) -> bool {
+        let met = met_from_start(cell, recipe, table);
         met.iter().any(|&p| kind_of(table[p as usize]) == TRANSFER)
+    }
+
+    /// Whether they have a test among them of which outcome 0 ends elsewhere than outcome 1.
+    fn uses_a_gate(cell: &Cell, recipe: &Recipe, table: &[u32]) -> bool {
+        let sizes = Sizes::of(cell, recipe);
+        let met = met_from_start(cell, recipe, table);
+        met.iter().any(|&position| {
+            let (point, configuration) = sizes.at(position);
+            let entry = table[position as usize];
+            let made =
+                [0, 1].map(|outcome| makes(cell, recipe, point, &configuration, entry, outcome));
+            let [failed, passed] = made.map(|made| made.map(|(_, configuration)| configuration));
+            failed != passed
+        })
     }
 
     impl Counts {
@@ -447,6 +508,69 @@ mod tests {
         } = counts;
         assert!(3 * realisable > pairs && 2 * overfull > pairs);
         assert!(20 * lost > pairs && 20 * narrowed > pairs, "{counts:?}");
+    }
+
+    /// How often gates are there and matter.
+    #[derive(Debug, Default)]
+    struct Gated {
+        /// Cells with gates.
+        cells: usize,
+        /// Of these, those with which the recipe is realisable, and those of them that use a gate.
+        realisable: usize,
+        used: usize,
+        /// Not realisable, but without gates; and realisable, but not without.
+        lost: usize,
+        gained: usize,
+    }
+
+    impl Gated {
+        fn add(&mut self, cell: &Cell, recipe: &Recipe) {
+            let (refusal, table) = planned(cell, recipe);
+            let realisable = refusal == 0;
+            let ungated = planned(&without_gates(cell), recipe).0 == 0;
+            self.cells += 1;
+            self.realisable += usize::from(realisable);
+            self.used += usize::from(realisable && uses_a_gate(cell, recipe, &table));
+            self.lost += usize::from(!realisable && ungated);
+            self.gained += usize::from(realisable && !ungated);
+        }
+    }
+
+    #[test]
+    fn a_third_of_the_cells_have_gates_and_many_of_these_matter() {
+        for (most_positions, pairs, seed) in [(400, 2000, 34), (20_000, 400, 35)] {
+            let mut random = Random(seed);
+            let mut counts = Gated::default();
+            for n in 0..pairs {
+                let pair = [likely_pair, limited_pair][n % 2];
+                let (cell, recipe) = pair(most_positions, &mut random);
+                if cell.has_gates() {
+                    counts.add(&cell, &recipe);
+                }
+            }
+            let Gated {
+                cells,
+                realisable,
+                used,
+                lost,
+                gained,
+            } = counts;
+            println!("{pairs} pairs: {counts:?}");
+            assert!(3 * cells >= pairs && 3 * realisable >= cells, "{counts:?}");
+            assert!(6 * used >= cells && 40 * gained >= cells && 100 * lost >= cells);
+        }
+    }
+
+    #[test]
+    fn a_cell_without_its_gates_keeps_all_else() {
+        let (cell, recipe) = crate::fixtures::gate();
+        let limited = limited(cell, &[1, 2]);
+        let without = without_gates(&limited);
+        assert_eq!((without.count, without.has_gates()), (6, false));
+        assert_eq!(without.line(5), [1, 3, 1, 3, 0]);
+        assert_eq!(without.limits, limited.limits);
+        assert_eq!(check(&without, &recipe), 0);
+        assert_eq!(without_gates(&without), without);
     }
 
     #[test]

@@ -112,12 +112,10 @@ fn processes_of(cell: &Cell) -> BTreeSet<Process> {
 /// The cell with one more line behind its others.
 fn with_process(cell: &Cell, [resource, from, operation, to]: Process) -> Cell {
     let mut longer = cell.clone();
-    let n = usize::from(cell.count);
-    longer.resource[n] = resource;
-    longer.from[n] = from;
-    longer.act[n] = OPERATION;
-    longer.arg[n] = operation;
-    longer.to[n] = to;
+    longer.set_line(
+        cell.count.into(),
+        [resource, from, OPERATION, operation, to],
+    );
     longer.count += 1;
     longer
 }
@@ -127,7 +125,7 @@ mod tests {
     use super::*;
     use crate::fixtures::{
         bench, bench_with, cell_of, either_pair, limit, limit_with_a_fifth_state, limited,
-        recipe_of, BENCH_CELL, BENCH_RECIPE, PASTED_END, PASTED_LOOP,
+        recipe_of, BENCH_CELL, BENCH_RECIPE, FORK, PASTED_END, PASTED_LOOP,
     };
     use crate::random::Random;
     use crate::recipe::every_point_is_reached;
@@ -236,6 +234,23 @@ mod tests {
     }
 
     #[test]
+    fn a_gate_is_no_process_and_may_serve_a_new_one() {
+        // The test leads both outcomes to where `else` goes on, by the operation line and by the gate.
+        let lines = ["0,0,1,1,0", "0,0,1,2,2", "0,1,1,3,0", "0,2,1,4,0"];
+        let recipe = recipe_of(&FORK);
+        let with_gate = |to: u8| cell_of(&[&lines[..], &[&format!("0,0,4,2,{to}")]].concat());
+        // A second operation line from there shares the gate and leads `then` on; or `then` goes on from
+        // where it is.
+        let listed_with_gate = [[0, 0, 2, 1], [0, 2, 3, 0], [0, 2, 3, 1], [0, 2, 3, 2]];
+        assert_eq!(listed(&with_gate(2), &recipe), listed_with_gate);
+        // Without the gate that line would lead both on from there.
+        assert_eq!(listed(&cell_of(&lines), &recipe), listed_with_gate[1..]);
+        // A gate of those numbers is no such line, and leads `else` nowhere.
+        assert!(candidates(&with_gate(1), &recipe).contains(&[0, 0, 2, 1]));
+        assert_eq!(listed(&with_gate(1), &recipe), [[0; 4]; 0]);
+    }
+
+    #[test]
     fn a_second_station_where_a_nest_is_full() {
         let lines = ["0,0,1,1,0", "1,0,1,3,0"];
         let recipe = recipe_of(&["0,1,1,0,1,1,0", "1,1,1,0,2,2,0", "2,0,0,0,0,0,0"]);
@@ -319,7 +334,7 @@ mod tests {
     #[test]
     fn joint_steps_and_single_moves_list_the_same() {
         let mut random = Random(31);
-        let (mut compared, mut some_listed, mut none_listed) = (0, 0, 0);
+        let (mut compared, mut some_listed, mut none_listed, mut gated) = (0, 0, 0, 0);
         let mut last = bench();
         for seed in 0..2000 {
             let (cell, recipe) = either_pair(seed, 200, &mut random);
@@ -333,14 +348,15 @@ mod tests {
                     let lacks = !realisable_by_joint_steps(&cell, recipe);
                     compared += 1;
                     some_listed += usize::from(!listed.is_empty());
+                    gated += usize::from(!listed.is_empty() && cell.has_gates());
                     none_listed += usize::from(lacks && listed.is_empty());
                 }
             }
             last = (cell, recipe);
         }
-        let counts = [compared, some_listed, none_listed];
+        let counts = [compared, some_listed, none_listed, gated];
         assert!(
-            compared > 1000 && some_listed > 200 && none_listed > 200,
+            compared > 1000 && some_listed > 200 && none_listed > 200 && gated > 50,
             "{counts:?}"
         );
     }

@@ -29,10 +29,12 @@ pub use cell::{
     cell_bytes, cell_of_bytes, check_cell, read_cell, Cell, CellReading, CELL_BYTES, CELL_NAMES,
     NO_LIMIT,
 };
-pub use entry::{entry_of, is_open, kind_of, letters_of, CARRY, INTERNAL, STAY, TRANSFER};
+pub use entry::{
+    carry_of, entry_of, is_open, kind_of, letters_of, CARRY, INTERNAL, STAY, TRANSFER,
+};
 pub use generate::{
     chain_pair, dense_pair, gap_pair, likely_pair, limited_pair, long_ways_pair, mixed_pair,
-    odometer_pair, stations_reversed,
+    odometer_pair, stations_reversed, with_gates, without_gates,
 };
 pub use install::{
     candidates, install, missing_processes, realisable_by_joint_steps, realisable_by_single_moves,

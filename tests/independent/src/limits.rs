@@ -154,6 +154,7 @@ mod tests {
             assert_eq!(refusal(&cell, b""), (number, 0));
         };
         // Each change breaks a rule before all those that were broken so far.
+        expect(|cell| cell.act[1] = 4, 23);
         expect(|cell| cell.limits[2] = 7, 20);
         expect(|cell| cell.act[0] = 3, 6);
         expect(|cell| cell.resource[1] = 3, 5);

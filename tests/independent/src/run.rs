@@ -189,8 +189,8 @@ pub fn run_of_bytes(bytes: &[u8]) -> Run {
 mod tests {
     use super::*;
     use crate::fixtures::{
-        bench, bench_table, bench_with, cell_of, limit, limit_with_a_fifth_state, recipe_of,
-        BENCH_CELL, PASTED_END, PASTED_LOOP,
+        bench, bench_table, bench_with, cell_of, gate, limit, limit_with_a_fifth_state, planned,
+        recipe_of, BENCH_CELL, PASTED_END, PASTED_LOOP,
     };
 
     /// The run at a position of the bench example.
@@ -225,7 +225,7 @@ mod tests {
         let moves = [
             (0, 50_331_648, 0, 22),
             (22, 33_554_561, 0, 26),
-            (26, 50_331_651, 1, 50),
+            (26, 50_331_843, 1, 50),
             (50, 50_331_652, 0, 72),
         ];
         for (position, entry, outcome, next) in moves {
@@ -275,6 +275,57 @@ mod tests {
         for outcome in [0, 1] {
             let again = failed.run.report(&cell, &recipe, &table, outcome);
             assert_eq!((again.refusal, again.run), (0, Run::fresh()));
+        }
+    }
+
+    #[test]
+    fn a_test_with_a_gate_leaves_its_station_elsewhere_on_outcome_0() {
+        let (cell, recipe) = gate();
+        let (_, table) = planned(&cell, &recipe);
+        let to_the_test = [0, 0].iter().fold(Run::fresh(), |run, &outcome| {
+            let report = run.report(&cell, &recipe, &table, outcome);
+            assert_eq!(report.refusal, 0);
+            report.run
+        });
+        let next_move = |run: Run| run.next_move(&cell, &recipe, &table).entry;
+        assert_eq!(next_move(to_the_test), 50_331_971);
+        for (outcome, point, state, entry) in [(1, 2, 2, 50_331_652), (0, 3, 3, 50_331_654)] {
+            let Report { refusal, run } = to_the_test.report(&cell, &recipe, &table, outcome);
+            assert_eq!(
+                (refusal, run.point, run.configuration.states[1]),
+                (0, point, state)
+            );
+            assert_eq!(run.configuration.places, to_the_test.configuration.places);
+            assert_eq!(next_move(run), entry);
+            let next = run.report(&cell, &recipe, &table, 1 - outcome);
+            assert_eq!(
+                (next.refusal, next.run.configuration),
+                (0, Configuration::START)
+            );
+        }
+    }
+
+    #[test]
+    fn an_entry_of_a_test_from_before_gates_is_open_for_line_0_alone() {
+        // The letter b was unused, and so it was 0.
+        for (cell, entry) in [
+            (["0,0,1,2,0", "0,0,1,1,0"], 50_331_648),
+            (["0,0,1,1,0", "0,0,1,2,0"], 50_331_649),
+        ] {
+            let recipe = recipe_of(&["0,1,1,0,1,1,0", "1,2,2,1,0,2,2", "2,0,0,0,0,0,0"]);
+            let at_line_0 = entry == 50_331_648;
+            for gate in [false, true] {
+                let lines = [&cell[..], &["0,0,4,2,0"]].concat();
+                let cell = cell_of(&lines[..2 + usize::from(gate)]);
+                let (_, mut table) = planned(&cell, &recipe);
+                let mut run = Run::fresh();
+                (run.point, run.configuration.places[0]) = (1, 1);
+                assert_eq!(run.report(&cell, &recipe, &table, 0).refusal, 0);
+                table[3] = entry;
+                let refusal = if at_line_0 && !gate { 0 } else { 18 };
+                assert_eq!(run.next_move(&cell, &recipe, &table).refusal, refusal);
+                assert_eq!(run.report(&cell, &recipe, &table, 0).refusal, refusal);
+            }
         }
     }
 

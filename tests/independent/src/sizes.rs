@@ -166,6 +166,15 @@ mod tests {
     }
 
     #[test]
+    fn a_gate_may_have_the_greatest_state() {
+        let end = recipe_of(&["0,0,0,0,0,0,0"]);
+        let states = |lines: &[&str]| Sizes::of(&cell_of(lines), &end).states[0];
+        assert_eq!(states(&["0,0,1,1,1"]), 2);
+        assert_eq!(states(&["0,0,1,1,1", "0,0,4,1,7"]), 8);
+        assert_eq!(states(&["0,0,1,1,1", "0,0,4,1,0"]), 2);
+    }
+
+    #[test]
     fn the_greatest_part_counts_and_not_how_many_there_are() {
         let cell = cell_of(&["0,0,1,1,0", "1,0,1,1,0"]);
         let recipe = recipe_of(&["0,1,1,0,128,1,0", "1,1,1,4,0,0,0"]);

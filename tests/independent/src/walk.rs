@@ -71,7 +71,7 @@ fn try_call(refusal: u8) -> Result<(), u8> {
 mod tests {
     use super::*;
     use crate::cell::CELL_NAMES;
-    use crate::fixtures::{BENCH_CELL, BENCH_RECIPE, PASTED_END, PASTED_LOOP};
+    use crate::fixtures::{BENCH_CELL, BENCH_RECIPE, GATE_LINES, PASTED_END, PASTED_LOOP};
     use crate::recipe::RECIPE_NAMES;
     use crate::table::tests::file_of;
 
@@ -92,12 +92,27 @@ mod tests {
 
     #[test]
     fn the_bench_example() {
-        let passed = format!("{TO_THE_TEST}26,50331651,50\n50,50331652,72\n");
+        let passed = format!("{TO_THE_TEST}26,50331843,50\n50,50331652,72\n");
         assert_eq!(bench(b"0010"), passed);
         // Other moves than the test ignore the outcome.
         assert_eq!(bench(b"1111"), passed);
-        let reworked = format!("{TO_THE_TEST}26,50331651,68\n68,50331652,0\n0,50331648,22\n");
+        let reworked = format!("{TO_THE_TEST}26,50331843,68\n68,50331652,0\n0,50331648,22\n");
         assert_eq!(bench(b"00000"), reworked);
+    }
+
+    #[test]
+    fn a_test_with_a_gate() {
+        let cell = file_of(CELL_NAMES, &[&BENCH_CELL[..], &GATE_LINES].concat());
+        let recipe = file_of(RECIPE_NAMES, &BENCH_RECIPE);
+        let walked = |input: &[u8]| lines(Some(&cell), Some(&recipe), input);
+        let to_the_test = "0,50331648,28\n28,33554561,32\n";
+        let passed = format!("{to_the_test}32,50331971,62\n62,50331652,96\n");
+        assert_eq!(walked(b"0010"), passed);
+        let failed = format!("{to_the_test}32,50331971,92\n92,50331654,0\n");
+        assert_eq!(walked(b"0000"), failed);
+        // A gate without its operation line.
+        let alone = file_of(CELL_NAMES, &[&BENCH_CELL[..], &["1,1,4,3,0"]].concat());
+        assert_eq!(lines(Some(&alone), Some(&recipe), b"0010"), "refused,23\n");
     }
 
     #[test]

@@ -1,12 +1,16 @@
 //! State diagrams in which much can go on.
 
-use super::{CellLine, Shape, MOST_LINES};
-use crate::cell::{IN, INTERNAL, OPERATION, OUT};
+use super::{CellLine, Extras, Shape, MOST_LINES};
+use crate::cell::{GATE, IN, INTERNAL, OPERATION, OUT};
 use crate::random::Random;
 
+/// So many lines leave room for gates.
+const MOST_FEWER: usize = 48;
+
 /// The value lines of a cell. Each resource goes round through its states, so that it seldom gets
-/// stuck; there are some other lines; and some lines are made to pairs of an out and an in.
-pub(super) fn cell_lines(shape: &Shape, random: &mut Random) -> Vec<CellLine> {
+/// stuck; there are some other lines; some lines are made to pairs of an out and an in; and some operations
+/// get gates, where these are wanted.
+pub(super) fn cell_lines(shape: &Shape, extras: Extras, random: &mut Random) -> Vec<CellLine> {
     // Few numbers, so that several stations have the same operation.
     let numbers = random.choose(&[1, 2, 2, 3, 3, 4, 64]);
     let operations = match shape.wide {
@@ -22,8 +26,10 @@ pub(super) fn cell_lines(shape: &Shape, random: &mut Random) -> Vec<CellLine> {
     }
     // A wide cell has its lanes beside the operations, so that these are open together.
     let without_lanes = if shape.wide { lines.len() } else { 0 };
+    // Gates want room behind the others.
+    let most = if extras.gates { MOST_FEWER } else { MOST_LINES };
     let others = match random.below(10) {
-        0 => MOST_LINES - lines.len(),
+        0 => most.saturating_sub(lines.len()),
         _ => random.below(2 * shape.states.len() + 1),
     };
     for _ in 0..others {
@@ -35,6 +41,9 @@ pub(super) fn cell_lines(shape: &Shape, random: &mut Random) -> Vec<CellLine> {
     }
     for _ in 0..random.below(3 * shape.states.len()) {
         add_lane(&mut lines[without_lanes..], random);
+    }
+    if extras.gates {
+        add_gates(&mut lines, shape, random);
     }
     random.shuffle(&mut lines);
     lines
@@ -64,4 +73,23 @@ fn add_lane(lines: &mut [CellLine], random: &mut Random) {
     let port = random.choose(&[0, 1, 2, 3, 63]);
     (lines[a][2], lines[b][2]) = (OUT, IN);
     (lines[a][3], lines[b][3]) = (port, port);
+}
+
+/// Adds gates to most of the operations, as far as there is room. A few of them lead to where the operation
+/// leads.
+fn add_gates(lines: &mut Vec<CellLine>, shape: &Shape, random: &mut Random) {
+    for n in 0..lines.len() {
+        let [k, from, act, arg, to] = lines[n];
+        let begins_alike = |line: &CellLine| line[..2] == [k, from] && line[2..4] == [GATE, arg];
+        let has_room = lines.len() < MOST_LINES && !lines.iter().any(begins_alike);
+        if act == OPERATION && has_room && !random.once_in(8) {
+            let states = usize::from(shape.states[usize::from(k)]);
+            let others = match random.once_in(8) {
+                true => 0,
+                false => 1 + random.below(states.max(2) - 1),
+            };
+            let failed = (usize::from(to) + others) % states;
+            lines.push([k, from, GATE, arg, failed as u8]);
+        }
+    }
 }

@@ -3,7 +3,7 @@
 use super::{
     limited_cell, numbered, recipe_of_lines, some_limits, CellLine, RecipeLine, END_LINE, NO_LIMITS,
 };
-use crate::cell::{Cell, IN, INTERNAL, OPERATION, OUT};
+use crate::cell::{Cell, GATE, IN, INTERNAL, OPERATION, OUT};
 use crate::plan::check_to_plan;
 use crate::random::Random;
 use crate::recipe::{Recipe, DO, TEST};
@@ -140,17 +140,22 @@ impl Chain {
     }
 
     /// Parts are given at the first or the last station, in any state, and mostly taken at the end of the
-    /// last one's count.
-    fn operations(&self, random: &mut Random) -> [CellLine; 2] {
+    /// last one's count. Where they are tested and taken there may be a gate, which leads anywhere.
+    fn operations(&self, random: &mut Random) -> Vec<CellLine> {
         let [first, last] = [&self.links[0], &self.links[self.links.len() - 1]];
         let giver = random.choose(&[first, first, last]);
         let at = random.choose(&giver.states);
         let end = last.mostly(last.top(), random);
         let [given, taken] = [giver.mostly(at, random), last.mostly(0, random)];
-        [
+        let mut lines = vec![
             [giver.resource, at, OPERATION, GIVE, given],
             [last.resource, end, OPERATION, TAKE, taken],
-        ]
+        ];
+        if random.once_in(2) {
+            let failed = random.choose(&last.states);
+            lines.push([last.resource, end, GATE, TAKE, failed]);
+        }
+        lines
     }
 
     /// Parts are given, perhaps tested, and taken: the last alone, all at once, or one after another. Then
@@ -164,7 +169,7 @@ impl Chain {
         };
         let mut lines: Vec<RecipeLine> = vec![];
         lines.extend(sums.iter().map(|&sum| [0, DO, GIVE, 0, sum, 0, 0]));
-        if random.once_in(3) {
+        if random.once_in(2) {
             lines.push([0, TEST, TAKE, last, 0, 0, 0]);
         }
         lines.extend(sums.iter().map(|&sum| [0, DO, TAKE, sum, 0, 0, 0]));
@@ -197,7 +202,7 @@ fn reorder(items: &mut [u8], random: &mut Random) {
 #[cfg(test)]
 mod tests {
     use super::*;
-    use crate::entry::{kind_of, letters_of, INTERNAL, TRANSFER};
+    use crate::entry::{kind_of, letters_of, CARRY, INTERNAL, TRANSFER};
     use crate::fixtures::planned;
     use crate::judge::longest_way;
 
@@ -255,6 +260,7 @@ mod tests {
         // By the answer: all, and those with a way of more than 100 silent moves.
         let (mut answers, mut long) = ([0; 2], [0; 2]);
         let (mut works, mut hands, mut limited, mut several_parts) = (0, 0, 0, 0);
+        let mut gated_tests = 0;
         for _ in 0..pairs {
             let (cell, recipe) = chain_pair(60_000, &mut random);
             let sizes = Sizes::of(&cell, &recipe);
@@ -270,10 +276,16 @@ mod tests {
             hands += usize::from(hands_over(&cell, &sizes, &table));
             limited += usize::from(cell.limits != NO_LIMITS);
             several_parts += usize::from(sizes.parts > 1);
+            let goes_by_gate = |&entry: &u32| {
+                let [a, b, ..] = letters_of(entry);
+                kind_of(entry) == CARRY && b != 0 && cell.to[a] != cell.to[b]
+            };
+            gated_tests += usize::from(table.iter().any(goes_by_gate));
         }
         assert!(3 * answers[0] > pairs && 6 * answers[1] > pairs);
         assert!(6 * long[0] > pairs && long[1] >= 3, "{long:?}");
         let often = [works, hands, limited, several_parts];
         assert!(often.iter().all(|&times| 6 * times > pairs), "{often:?}");
+        assert!(12 * gated_tests > pairs, "{gated_tests}");
     }
 }

@@ -1,14 +1,15 @@
 //! Cells and recipes that a planner has most to do with: as many positions as there may be, long
 //! silent ways, and many rounds.
 
-use super::{cell_of_lines, recipe_of_lines, walk, CellLine, RecipeLine, Shape, END_LINE};
-use crate::cell::{Cell, IN, INTERNAL, OPERATION, OUT};
+use super::{cell_of_lines, keeping, recipe_of_lines, walk, CellLine, RecipeLine, Shape, END_LINE};
+use crate::cell::{Cell, GATE, IN, INTERNAL, OPERATION, OUT};
 use crate::install::realisable_by_single_moves;
 use crate::plan::check_to_plan;
 use crate::random::Random;
 use crate::recipe::{Recipe, DO, TEST};
 use crate::run::check;
 use crate::sizes::{Sizes, MOST_POSITIONS};
+use crate::table::MOST_LINES;
 
 /// As many positions as there may be, and a way from the start: three stations that do everything in
 /// every state; five parts that are given, tested and taken.
@@ -63,7 +64,7 @@ pub fn gap_pair(lines: usize, silent_moves: usize, random: &mut Random) -> (Cell
     loop {
         let (whole, recipe) = mixed_pair(lines + 1, silent_moves, random);
         let operations = (0..=lines).filter(|&n| whole.act[n] == OPERATION);
-        let mut without = operations.map(|n| without_line(&whole, n));
+        let mut without = operations.map(|n| keeping(&whole, |line| line != n));
         let lacks = |cell: &Cell| {
             check(cell, &recipe) == 0
                 && Sizes::of(cell, &recipe).positions == MOST_POSITIONS
@@ -73,13 +74,6 @@ pub fn gap_pair(lines: usize, silent_moves: usize, random: &mut Random) -> (Cell
             return (cell, recipe);
         }
     }
-}
-
-/// A cell without limits, without one of its lines.
-fn without_line(cell: &Cell, line: usize) -> Cell {
-    let others = (0..usize::from(cell.count)).filter(|&n| n != line);
-    let lines: Vec<CellLine> = others.map(|n| cell.line(n)).collect();
-    cell_of_lines(&lines)
 }
 
 /// Any lines of three stations with four states. The more silent moves are wanted for a line, the more
@@ -119,6 +113,29 @@ pub fn stations_reversed((mut cell, recipe): (Cell, Recipe)) -> (Cell, Recipe) {
     (cell, recipe)
 }
 
+/// The pair with gates at its tests: behind its cell's lines, a gate for everything by which a test may be
+/// carried, to the state before the one in which it begins, as far as there is room.
+pub fn with_gates((mut cell, recipe): (Cell, Recipe)) -> (Cell, Recipe) {
+    let sizes = Sizes::of(&cell, &recipe);
+    let points = 0..sizes.points as u8;
+    let tests = points.filter(|&point| recipe.kind_at(point) == TEST);
+    let tested: Vec<u8> = tests
+        .map(|point| recipe.op[recipe.lines_at(point).start])
+        .collect();
+    for n in 0..usize::from(cell.count) {
+        let [k, from, act, arg, _] = cell.line(n);
+        let end = usize::from(cell.count);
+        let is_carrier = act == OPERATION && tested.contains(&arg);
+        if is_carrier && cell.line_on_failure(n) == n && end < MOST_LINES {
+            let states = sizes.states[usize::from(k)] as u8;
+            let failed = (from + states - 1) % states;
+            cell.set_line(end, [k, from, GATE, arg, failed]);
+            cell.count += 1;
+        }
+    }
+    (cell, recipe)
+}
+
 /// Stations of eight states, five at most, that count the rounds of a loop, the first by its operation
 /// and the others by transfers, until the last one is stuck. So nothing but the last count is stuck at
 /// first, and each sweep drops one more round of the loop; nothing is realisable.
@@ -147,7 +164,7 @@ mod tests {
     use crate::entry::{kind_of, CARRY, INTERNAL, STAY, TRANSFER};
     use crate::fixtures::planned;
     use crate::install::missing_processes;
-    use crate::judge::longest_way;
+    use crate::judge::{judge, longest_way};
 
     fn sizes_of((cell, recipe): &(Cell, Recipe)) -> Sizes {
         assert_eq!(check(cell, recipe), 0);
@@ -226,6 +243,24 @@ mod tests {
         }
         assert_ne!(backwards, four);
         assert_eq!(stations_reversed(backwards), four);
+    }
+
+    #[test]
+    fn gates_at_every_test_of_the_dense_pair() {
+        let (cell, recipe) = with_gates(dense_pair());
+        assert_eq!(
+            sizes_of(&(cell.clone(), recipe.clone())).positions,
+            MOST_POSITIONS
+        );
+        assert_eq!(usize::from(cell.count), 48 + 12);
+        assert_eq!(cell.line(48), [0, 0, GATE, 0, 3]);
+        let (refusal, table) = planned(&cell, &recipe);
+        assert_eq!((refusal, judge(&cell, &recipe, &table)), (0, Ok(0)));
+        // Only what is tested gets a gate, and only as long as there is room.
+        let (cell, recipe) = long_ways_pair(3, 5);
+        assert_eq!(with_gates((cell.clone(), recipe.clone())), (cell, recipe));
+        let (cell, _) = with_gates(mixed_pair(64, 52, &mut Random(3)));
+        assert!(cell.count == 64 && !cell.has_gates());
     }
 
     #[test]

@@ -5,8 +5,8 @@ use borrow.Author.Needs.{needs}
 use Rattle.cell.proofs.reader.judged.Statement.{statement}
 use Rattle.cell.proofs.reader.judged.Tie as tie
 
-check-ports-requires : tie.Need-check-ports-requires
-check-ports-requires c κs = search needs
+check-lines-requires : tie.Need-check-lines-requires
+check-lines-requires c κs = search needs
 
 enum-told : tie.Need-enum-told
 enum-told c = search needs
@@ -19,16 +19,16 @@ refused-requires c κs = search needs
 
 returns : tie.Need-returns
 unfolding reading ifAccepted
-returns c = rw (sym (c .before .before .check-ports .ensures) ∙ c .enum-told .given .1)
+returns c = rw (sym (c .before .before .check-lines .ensures) ∙ c .enum-told .given .1)
 
 returns-2 : tie.Need-returns-2
 unfolding reading ifAccepted
 returns-2 c =
     let at-refusal = c .before .before in
-    let at-check-ports = at-refusal .before .before in
-    c .refused .ensures ∙ rw (sym (at-check-ports .check-ports .ensures) ∙ at-refusal .refusal .given .1)
+    let at-check-lines = at-refusal .before .before in
+    c .refused .ensures ∙ rw (sym (at-check-lines .check-lines .ensures) ∙ at-refusal .refusal .given .1)
 
 pub judged-spec : {M : Type 1} → statement M
 judged-spec =
     tie.close
-    (tie.spec check-ports-requires enum-told enum-known-refusal refused-requires returns returns-2)
+    (tie.spec check-lines-requires enum-told enum-known-refusal refused-requires returns returns-2)

@@ -112,7 +112,7 @@ returns-5 c =
     (λ i. record {
       point = (c .lead .ensures ∙ ap (λ (e : ℕ). leadsTo (start .args .recipe) (start .args .self .point) e (start .args .outcome)) entry) i;
       configuration =
-          (c .before .make .ensures (start .args .outcome)
+          (c .before .make .ensures
           ∙ ap
           (λ (e : ℕ). makes (start .args .cell) (start .args .recipe) (start .args .self .point)
           (start .args .self .configuration) e (start .args .outcome))
