@@ -81,35 +81,34 @@ fn make_room(rows: &mut Rows, wanted: usize, random: &mut Random) -> bool {
     true
 }
 
-/// Sets a gate among the rows with which none begins alike, and gives where it stands. None if there is no
-/// room, or if one does.
-pub fn add_lone(rows: &mut Rows, random: &mut Random) -> Option<usize> {
+/// Sets a gate among the rows with which none begins alike. Whether there was room for it, and none did.
+pub fn add_lone(rows: &mut Rows, random: &mut Random) -> bool {
     let resource = rows[random.below(rows.len())][RESOURCE];
     let [from, arg, to] = [FROM, ARG, TO].map(|k| any_number(k, random));
     let gate = vec![resource, from, GATE, arg, to];
     let is_lone = !rows.iter().any(|row| begin_alike(row, &gate));
-    (is_lone && make_room(rows, 1, random)).then(|| {
-        let at = random.below(rows.len() + 1);
-        rows.insert(at, gate);
-        at
-    })
+    let fits = is_lone && make_room(rows, 1, random);
+    if fits {
+        rows.insert(random.below(rows.len() + 1), gate);
+    }
+    fits
 }
 
-/// Sets a second gate beside one, before it or behind it, and gives where the later one stands. None if there
-/// is no room, or no operation row for them.
-pub fn add_second(rows: &mut Rows, random: &mut Random) -> Option<usize> {
-    let operation = some_row(rows, random, |row| row[ACT] == OPERATION)?;
-    let operation = rows[operation].clone();
+/// Sets a second gate beside one, before it or behind it. Whether there was room, and an operation row for
+/// them.
+pub fn add_second(rows: &mut Rows, random: &mut Random) -> bool {
+    let Some(n) = some_row(rows, random, |row| row[ACT] == OPERATION) else {
+        return false;
+    };
+    let operation = rows[n].clone();
     let is_gate = |row: &Vec<u32>| row[ACT] == GATE && begin_alike(row, &operation);
     let wanted = if rows.iter().any(is_gate) { 1 } else { 2 };
-    if !make_room(rows, wanted, random) {
-        return None;
-    }
-    for _ in 0..wanted {
+    let fits = make_room(rows, wanted, random);
+    while fits && rows.iter().filter(|row| is_gate(row)).count() < 2 {
         let to = any_number(TO, random);
         rows.insert(random.below(rows.len() + 1), gate_of(&operation, to));
     }
-    rows.iter().rposition(is_gate)
+    fits
 }
 
 /// Changes numbers so that they mostly break rule 23.

@@ -240,7 +240,7 @@ impl Generate for CellFile {
         for resource in missing {
             rows.push(work_row(resource, random));
         }
-        if random.below(3) == 0 {
+        if random.below(5) < 2 {
             gates::add(&mut rows, |_| CellFile::GREATEST[cell::TO] + 1, random);
         }
         random.shuffle(&mut rows);

@@ -222,28 +222,17 @@ fn cell_rows(shape: &Shape, operations: &[u32], random: &mut Random) -> Rows {
         0 => 64,
         _ => resources * (1 + random.below(5)),
     };
-    let mut rows: Rows = Vec::with_capacity(lines);
+    let operation = |k: usize, random: &mut Random| {
+        let number = random.choose(operations);
+        cell_row(shape, k, OPERATION, number, random)
+    };
     // An operation for each resource, so that none is without a line.
-    for k in 0..resources {
-        rows.push(cell_row(
-            shape,
-            k,
-            OPERATION,
-            random.choose(operations),
-            random,
-        ));
-    }
+    let mut rows: Rows = (0..resources).map(|k| operation(k, random)).collect();
     while rows.len() < lines {
         let k = random.below(resources);
         let free = lines - rows.len();
         match random.below(6) {
-            0..=2 => rows.push(cell_row(
-                shape,
-                k,
-                OPERATION,
-                random.choose(operations),
-                random,
-            )),
+            0..=2 => rows.push(operation(k, random)),
             3 => rows.push(cell_row(shape, k, INTERNAL, random.number(64), random)),
             _ if resources > 1 && free > 3 => push_transfer(&mut rows, shape, random),
             _ => {}

@@ -4,8 +4,8 @@
 use against::plans::Handed;
 use against::random::Random;
 use independent::{
-    cell_bytes, chain_pair, long_ways_pair, longest_way, recipe_bytes, stations_reversed, Cell,
-    Recipe, Sizes,
+    cell_bytes, chain_pair, kind_of, letters_of, long_ways_pair, longest_way, recipe_bytes,
+    stations_reversed, Cell, Recipe, Sizes, CARRY,
 };
 
 /// Seeded chains, and the most positions of one.
@@ -30,6 +30,8 @@ struct Seen {
     long: [usize; 2],
     /// The most silent moves in a row.
     longest: u64,
+    /// Those with a test of which outcome 0 leads elsewhere than outcome 1.
+    parted: [usize; 2],
 }
 
 impl Seen {
@@ -42,6 +44,12 @@ impl Seen {
         let refused = usize::from(planned.refusal == 15);
         self.planned[refused] += 1;
         self.longest = self.longest.max(longest);
+        let is_parted = |&entry: &u32| {
+            let [a, b, ..] = letters_of(entry);
+            // A do of a chain has one line, and no second letter.
+            kind_of(entry) == CARRY && b != 0 && cell.to[a] != cell.to[b]
+        };
+        self.parted[refused] += usize::from(planned.table.iter().any(is_parted));
         if sizes.joint_states * sizes.placings < FEW_CONFIGURATIONS {
             self.few[refused] += 1;
         } else {
@@ -65,6 +73,7 @@ fn seeded_chains() {
     assert!(least(seen.planned, [300, 100]));
     assert!(least(seen.few, [20, 10]) && least(seen.many, [300, 100]));
     assert!(least(seen.long, [150, 15]) && seen.longest > 1_000);
+    assert!(least(seen.parted, [50, 1]));
 }
 
 #[test]

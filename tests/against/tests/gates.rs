@@ -58,8 +58,8 @@ fn gate_example() -> Pair {
 /// What both readers say of the file of a pair's cell: the refusal and the line.
 fn read(cell: &Rows) -> (u64, u64) {
     let buffer = [0x5a; CELL_BYTES];
-    let reader = (CellFile::library, CellFile::independent);
-    let (answer, _) = same_reading(&file::<CellFile>(cell), &buffer, reader.0, reader.1);
+    let file = file::<CellFile>(cell);
+    let (answer, _) = same_reading(&file, &buffer, CellFile::library, CellFile::independent);
     (answer % 256, answer / 256)
 }
 
@@ -178,8 +178,8 @@ struct Case {
     outcome: u8,
 }
 
-/// Sets gates among the lines of a cell so that rule 23 is broken in one of its two ways.
-type Half = fn(&mut Rows, &mut Random) -> Option<usize>;
+/// Sets gates among the lines of a cell so that rule 23 is broken in one of its two ways. Whether it could.
+type Half = fn(&mut Rows, &mut Random) -> bool;
 
 const HALVES: [(&str, Half); 2] = [
     ("without its line", add_lone),
@@ -197,8 +197,7 @@ fn checked(pair: &Pair) -> u8 {
 
 /// Breaks rule 23 and nothing else.
 fn alone(mut case: Case, half: Half, random: &mut Random) -> Option<Case> {
-    half(&mut case.pair.cell, random)?;
-    Some(case)
+    half(&mut case.pair.cell, random).then_some(case)
 }
 
 fn too_many_lines(case: Case, half: Half, random: &mut Random) -> Option<Case> {
@@ -237,7 +236,7 @@ fn unreached(mut case: Case, half: Half, random: &mut Random) -> Option<Case> {
     alone(case, half, random)
 }
 
-/// Takes a cell for which the recipe has too many positions. Not every try finds one.
+/// Takes a cell and a recipe that have too many positions. Not every try finds such.
 fn too_great(mut case: Case, half: Half, random: &mut Random) -> Option<Case> {
     case.pair.limits = NO_LIMITS;
     let found = (0..8).any(|_| {
@@ -300,50 +299,49 @@ fn good_case(n: usize, source: &mut independent::Random, random: &mut Random) ->
     }
 }
 
-/// Wants every reader and every call to refuse a case with this number, and the reader to name the line.
-fn expect(case: &Case, number: u8, random: &mut Random) {
-    let Case { pair, .. } = case;
-    let line = first_fault(&pair.cell).expect("rule 23 is broken") as u64 + 2;
-    let (cell, recipe) = (pair.cell_bytes(), pair.recipe_bytes());
-    // A file has no limits.
-    let of_file = match number {
-        3..=6 => number,
-        _ => 23,
-    };
-    let read = read(&pair.cell);
-    assert_eq!(read.0, of_file.into());
-    assert!(
-        of_file != 23 || read.1 == line,
-        "line {line}, not {}",
-        read.1
-    );
-    assert_eq!(read_limits(&cell), (number.into(), 0));
+/// Wants both readers to refuse a case, the one of limits with this number, and the other to name the line if
+/// it refuses by 23.
+fn expect_of_readers(case: &Case, number: u8) {
+    let rows = &case.pair.cell;
+    let line = first_fault(rows).expect("rule 23 is broken") as u64 + 2;
+    match number {
+        3..=6 => assert_eq!(read(rows).0, number.into()),
+        // A file has no limits.
+        _ => assert_eq!(read(rows), (23, line)),
+    }
+    assert_eq!(read_limits(&case.pair.cell_bytes()), (number.into(), 0));
+}
 
+/// Wants every call on a run, and check, to refuse a case with this number.
+fn expect_of_run(case: &Case, number: u8, random: &mut Random) {
     let round = Round {
-        cell: cell.clone(),
-        recipe: recipe.clone(),
+        cell: case.pair.cell_bytes(),
+        recipe: case.pair.recipe_bytes(),
         run: case.run.clone(),
         entries: case.entries,
         outcome: case.outcome,
         part: random.below(9) as u8,
     };
     let answers = compare(&round, &Table::new(vec![0; case.entries]));
-    let refusal = u32::from(number);
     let given = [
         answers.check,
         (answers.next_move >> 32) as u32,
         answers.report,
         answers.place / 256,
     ];
-    assert_eq!(given, [refusal; 4], "{round}");
+    assert_eq!(given, [u32::from(number); 4], "{round}");
+}
 
+/// Wants every call that plans to refuse a case with this number.
+fn expect_of_planner(case: &Case, number: u8, random: &mut Random) {
     let handed = Handed {
-        cell,
-        recipe,
+        cell: case.pair.cell_bytes(),
+        recipe: case.pair.recipe_bytes(),
         entries: case.entries,
         scratch: case.scratch,
     };
-    assert_eq!(handed.plan(random).refusal, refusal, "{handed}");
+    let refusal = handed.plan(random).refusal;
+    assert_eq!(refusal, number.into(), "{handed}");
     let owed = owed(&handed);
     assert_eq!(owed.refusal, number, "{handed}");
     let list = random.below(40);
@@ -360,7 +358,9 @@ fn rule_23_has_its_place() {
         for ((_, half), seen) in HALVES.iter().zip(&mut seen) {
             for ((_, way, number), times) in WAYS.iter().zip(seen) {
                 if let Some(case) = way(case.clone(), *half, &mut random) {
-                    expect(&case, *number, &mut random);
+                    expect_of_readers(&case, *number);
+                    expect_of_run(&case, *number, &mut random);
+                    expect_of_planner(&case, *number, &mut random);
                     *times += 1;
                 }
             }

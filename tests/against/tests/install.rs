@@ -214,9 +214,14 @@ fn a_gate_is_no_process_and_may_serve_a_new_one() {
     let processes = [[0, 0, 2, 1], [0, 2, 3, 0], [0, 2, 3, 1], [0, 2, 3, 2]];
     expect(&pair(&["0,0,4,2,2"]), &processes);
     expect(&pair(&[]), &processes[1..]);
-    // A gate of those numbers is no such line.
+    // One that leads elsewhere leads `else` nowhere.
     expect(&pair(&["0,0,4,2,1"]), &[]);
     expect(&pair(&["0,0,4,2,0"]), &[]);
+    // Where `else` goes on from state 1 too, the line that is listed first has the numbers of the gate.
+    let mut alike = recipe;
+    alike[3] = "3,1,3,1,0,4,0";
+    let cell = ["0,0,1,1,0", "0,0,1,2,2", "0,1,1,3,0", "0,0,4,2,1"];
+    expect(&Pair::of_lines(&cell, &[], &alike), &processes);
 }
 
 #[test]

@@ -18,6 +18,9 @@ const CELLS: usize = 10_000;
 const FILES: usize = 10;
 const LEAST_SEEN: usize = 1_000;
 
+/// The act of a gate.
+const GATE: u32 = 4;
+
 /// The record of a cell file, which the library must accept, with these limits at its first resources.
 fn record_of(file: &[u8], limits: &[u8]) -> Vec<u8> {
     let mut record = vec![0xff; CELL_BYTES];
@@ -160,8 +163,10 @@ fn seeded_buffer(pair: &Pair, random: &mut Random) -> Vec<u8> {
 fn seeded_limits_files() {
     let mut random = Random::new(5);
     let mut seen = Seen::default();
+    let mut gated = 0;
     for _ in 0..CELLS {
         let pair = seeded_pair(&mut random);
+        gated += usize::from(pair.cell.iter().any(|row| row[2] == GATE));
         for _ in 0..FILES {
             let file = seeded_file(&pair, &mut random);
             let buffer = seeded_buffer(&pair, &mut random);
@@ -169,6 +174,8 @@ fn seeded_limits_files() {
             seen.note(&file, &buffer, answer);
         }
     }
+    println!("{gated} cells with gates");
+    assert!(3 * gated >= CELLS);
     seen.judge();
 }
 

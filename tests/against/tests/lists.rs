@@ -18,6 +18,9 @@ const MOST_POSITIONS: u64 = 1_024;
 /// How often each kind of move must be issued at least, and each refusal be given.
 const LEAST_SEEN: usize = 1_000;
 
+/// How often a test with a gate must be issued at least, in each form and with each outcome.
+const LEAST_AT_GATES: usize = 150;
+
 /// A table with an open entry at most positions that have one, and here and there some other, or one
 /// that only the limits shut.
 fn seeded_table((cell, recipe, sizes): &(Cell, Recipe, Sizes), random: &mut Random) -> Vec<u32> {
@@ -62,6 +65,12 @@ fn shut_positions((cell, recipe, sizes): &(Cell, Recipe, Sizes), table: &[u32]) 
     (0..sizes.positions).filter(is_shut).collect()
 }
 
+/// The positions at which the entry is a test with a gate.
+fn gate_positions((cell, recipe, sizes): &(Cell, Recipe, Sizes), table: &[u32]) -> Vec<u64> {
+    let is_at_gate = |&p: &u64| Book::from_position(cell, recipe, table, p).is_at_gate();
+    (0..sizes.positions).filter(is_at_gate).collect()
+}
+
 /// Lists over one pair, from a fresh run and from other positions. How many calls were made where only
 /// the limits shut the move.
 fn compare_pair(random: &mut Random, seen: &mut Seen) -> usize {
@@ -76,15 +85,18 @@ fn compare_pair(random: &mut Random, seen: &mut Seen) -> usize {
         table: entries,
     };
     let shut = shut_positions(&records, entries);
+    let gates = gate_positions(&records, entries);
     let mut calls_where_shut = 0;
     for n in 0..LISTS {
         let position = match n % 4 {
             0 => 0,
             1 if !shut.is_empty() => random.choose(&shut),
+            2 if !gates.is_empty() => random.choose(&gates),
             _ => random.below(entries.len()) as u64,
         };
         let mut book = Book::from_position(&records.0, &records.1, entries, position);
-        let list_seen = list.compare(CALLS, Form::Value, &mut book, random);
+        let form = [Form::Value, Form::Record][n / 4 % 2];
+        let list_seen = list.compare(CALLS, form, &mut book, random);
         if shut.contains(&position) {
             calls_where_shut += list_seen.next_moves[18] + list_seen.reports[18];
         }
@@ -108,6 +120,9 @@ fn seeded_lists_of_calls() {
         seen.overfull
     );
     assert!(shut >= LEAST_SEEN && seen.overfull >= LEAST_SEEN);
+    println!("tests with a gate by form and outcome {:?}", seen.gates);
+    let mut gates = seen.gates.as_flattened().iter();
+    assert!(gates.all(|&times| times >= LEAST_AT_GATES));
     println!("issued by kind {:?}", seen.issued);
     assert!(seen.issued[1..=3].iter().all(|&times| times >= LEAST_SEEN));
     assert!(seen.reports[17..].iter().all(|&times| times >= LEAST_SEEN));

@@ -594,6 +594,9 @@ fn great_pairs() {
     let limited = &seen.limited;
     assert!(limited.planned >= 20 && 3 * limited.accepted >= limited.planned);
     assert!(limited.overfull[0] >= 10);
+    let gated = &seen.gated;
+    assert!(3 * gated.planned >= GREAT_PAIRS && 3 * gated.accepted >= gated.planned);
+    assert!(gated.parted >= 5);
     assert!(kinds[1..].iter().all(|&times| times >= 10));
     assert!(seen.lists.issued[1..4].iter().all(|&times| times >= 1_000));
 }

@@ -32,7 +32,7 @@ struct Seen {
     /// How often each of these was accepted although the recipe has an unreached point.
     unreached: [usize; 4],
     /// Refusals 4 for a limit alone.
-    limits_past_range: usize,
+    limits_past_range: [usize; 1],
     /// Moves that only the limits shut, by their kind: without a station overfull before, and with one.
     shut: [[usize; 5]; 2],
     /// Accepted next-moves with a station overfull before, by their kind.
@@ -49,7 +49,7 @@ struct Seen {
     tests: [usize; 2],
     parted: [usize; 2],
     /// Dos by a line that a test of it would leave by a gate elsewhere.
-    gated_dos: usize,
+    gated_dos: [usize; 1],
     /// Entries at tests that nothing but the second letter shuts, without a gate and with one.
     other_gates: [usize; 2],
     /// Transfers of no part, of one, and of several.
@@ -94,7 +94,7 @@ impl Seen {
         if cell.limits == NO_LIMITS {
             return;
         }
-        self.limits_past_range += usize::from(limits_leave_range(&cell));
+        self.limits_past_range[0] += usize::from(limits_leave_range(&cell));
         if let Some(position) = round.position() {
             let entry = table.entries()[position as usize];
             self.note_limited_move(&cell, round, entry, answers);
@@ -161,7 +161,7 @@ impl Seen {
             self.parted[usize::from(round.outcome)] += parted;
             return;
         }
-        self.gated_dos += parted;
+        self.gated_dos[0] += parted;
         self.parallel[lines.len()] += 1;
         let same = lines
             .iter()
@@ -180,28 +180,37 @@ impl Seen {
         println!("{} calls", self.calls);
         assert!(self.calls >= LEAST_CALLS);
         self.judge_refusals("check", 0, &[3..=13, 20..=20, 23..=23]);
-        self.judge_refusals(
-            "next-move",
-            1,
-            &[3..=14, 16..=16, 18..=18, 20..=20, 23..=23],
-        );
+        let of_next_move = [3..=14, 16..=16, 18..=18, 20..=20, 23..=23];
+        self.judge_refusals("next-move", 1, &of_next_move);
         self.judge_refusals("report", 2, &[3..=14, 16..=20, 23..=23]);
         self.judge_refusals("place", 3, &[3..=13, 16..=16, 20..=20, 23..=23]);
-        for (name, seen) in [
+        for (name, seen) in self.moves_seen().into_iter().chain(self.limits_seen()) {
+            println!("{name}: {seen:?}");
+            assert!(seen.iter().all(|&times| times >= LEAST_SEEN), "{name}");
+        }
+    }
+
+    fn moves_seen(&self) -> [(&str, &[usize]); 10] {
+        [
             ("accepted with an unreached point", &self.unreached[..]),
             ("next-moves of kind 1 to 4", &self.moves[1..]),
             ("reports of kind 1 to 4", &self.reports[1..]),
             ("dos of 1 to 4 lines", &self.parallel[1..]),
             ("tests of outcome 0 and 1", &self.tests),
             ("tests with a gate that leads elsewhere", &self.parted),
-            ("dos beside a gate that leads elsewhere", &[self.gated_dos]),
+            ("dos beside a gate that leads elsewhere", &self.gated_dos),
             ("entries that the second letter shuts", &self.other_gates),
             ("transfers of no part, one, several", &self.handed_over),
             (
                 "dos that give what they take, here and there",
                 &self.exchanged,
             ),
-            ("refusals 4 for a limit alone", &[self.limits_past_range]),
+        ]
+    }
+
+    fn limits_seen(&self) -> [(&str, &[usize]); 6] {
+        [
+            ("refusals 4 for a limit alone", &self.limits_past_range[..]),
             // Internal work moves no part, so that it neither fills a station nor mends one.
             (
                 "transfers and carries that limits shut",
@@ -214,10 +223,7 @@ impl Seen {
                 "transfers and carries that just fit",
                 &self.just_fitting[2..4],
             ),
-        ] {
-            println!("{name}: {seen:?}");
-            assert!(seen.iter().all(|&times| times >= LEAST_SEEN), "{name}");
-        }
+        ]
     }
 
     /// A call must be accepted and refused by each of these rules often enough, and by no other.
@@ -360,6 +366,7 @@ fn seeded_calls() {
     let mut random = Random::new(3);
     let mut table = Table::seeded(&mut random);
     let mut seen = Seen::default();
+    let mut gated = 0;
     for n in 0..PAIRS {
         // Most tables are small; some come near to the limit, and some pass it.
         let most = match n % 16 {
@@ -371,6 +378,7 @@ fn seeded_calls() {
             _ => 8_192,
         };
         let pair = pairs::good_pair(most, &mut random);
+        gated += usize::from(pair.records().0.has_gates());
         let mut greatest = 0;
         for _ in 0..ROUNDS {
             let round = seeded_round(&pair, &mut table, &mut random);
@@ -380,5 +388,7 @@ fn seeded_calls() {
         table.assert_unchanged(greatest);
     }
     table.assert_unchanged(table.entries().len());
+    println!("{gated} cells of {PAIRS} with gates");
+    assert!(3 * gated >= PAIRS);
     seen.judge();
 }

@@ -245,9 +245,16 @@ mod tests {
         assert_eq!(listed(&with_gate(2), &recipe), listed_with_gate);
         // Without the gate that line would lead both on from there.
         assert_eq!(listed(&cell_of(&lines), &recipe), listed_with_gate[1..]);
-        // A gate of those numbers is no such line, and leads `else` nowhere.
-        assert!(candidates(&with_gate(1), &recipe).contains(&[0, 0, 2, 1]));
+        // A gate of those numbers leads `else` nowhere.
         assert_eq!(listed(&with_gate(1), &recipe), [[0; 4]; 0]);
+        // Where `else` goes on from state 1 too, the line that is listed first has the numbers of the gate.
+        let mut alike = FORK;
+        alike[3] = "3,1,3,1,0,4,0";
+        let gate = ["0,0,1,1,0", "0,0,1,2,2", "0,1,1,3,0", "0,0,4,2,1"];
+        assert_eq!(
+            listed(&cell_of(&gate), &recipe_of(&alike)),
+            listed_with_gate
+        );
     }
 
     #[test]
