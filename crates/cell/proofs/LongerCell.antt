@@ -314,7 +314,7 @@ module _ (c : Cell) (l : OperationLine) (C : Columns c) (few : c .count < 64) (o
     unfolding rule20 withLine checkCell cellRules
     twentieth =
         ap (λ (R : ℕ). noLine LimitResource (anyBelow (limitsAbsent (c .limits) R) 6)) longer-resources
-        ∙ search (first-accepts, rest-accepts)
+        ∙ search (first-accepts, rest-accepts) depth 7
 
     -- an act 4 line that had its act 1 line has it still, the lines before it are the same, and the added one is of act 1
     twenty-third : rule23 (withLine c l) ≡ Accepted
