@@ -204,16 +204,17 @@ module _
     lines : PointLines r p
     lines = point-lines r (K .recipe-passes) p (position-point c r z K p a here)
 
-    -- at outcome 1, and at a do always, the letters' own lines are followed
+    -- a carry, which makes b at outcome 1 and d at outcome 0
     module _ (b d : Configuration) (is : effect c r p a e ≡ carried b d) where
       carry : IsCarried c r p a e b d
       carry = read-carried c r p a e is
 
-      x : Choice
+      abbrev x : Choice
       x = stepOf c r p e
 
+      -- at outcome 1, and at a do always, the letters' own lines are followed
       passed-states : after c x a .state ≡ b .state
-      unfolding x afterCarry partsMoved
+      unfolding afterCarry partsMoved
       passed-states = decide (eqb (kindOf r p) 1) (after c x a) ∙ sym (ap (λ (f : Configuration). f .state) (carry .passed))
         where
           decide : (t : Bool) (f : Configuration) → f .state ≡ cond t (partsMoved c r p (letter e) f) f .state
@@ -222,7 +223,7 @@ module _
 
       -- at outcome 0 of a test its gate, or the line if it has none
       module _ (two : kindOf r p ≡ 2) where
-        station : ℕ
+        abbrev station : ℕ
         station = resourceOf c (letter e 0)
 
         used : linesUsed r p e ≡ 1
@@ -230,7 +231,6 @@ module _
         used = rw (carry .kind) (lines .single (λ (z : kindOf r p ≡ 1). omega arith))
 
         station-low : station < 6
-        unfolding station
         station-low =
             let one : linesOf r p ≡ 1 = lines .single (λ (z : kindOf r p ≡ 1). omega arith) in
             resources-fit c (K .cell-passes) (letter e 0) (formed-carry c r p e (carry .formed) one (carry .kind) .0)
@@ -238,15 +238,15 @@ module _
         sets-gate :
             (k s : ℕ)
             → setTo c (arrow c r p e 0) (linesUsed r p e) k s ≡ cond (eqb k station) (toOf c (gateOf c (letter e 0))) s
-        unfolding station setTo arrow
+        unfolding setTo arrow
         sets-gate k s = rw (used, carry .kind, two, gate-resource c (letter e 0))
 
         rests-elsewhere : (k : ℕ) → (k ≡ station → ⊥) → x k ≡ rests
-        unfolding station x stepOf only
+        unfolding stepOf only
         rests-elsewhere k other = rw (used, ne-eqb k (resourceOf c (letter e 0)) other)
 
         gate-ends : set (tabulate 6 (λ k. stateAfter c (x k) (stateOf a k))) station (toOf c (gateOf c (letter e 0))) ≡ d .state
-        unfolding station x afterCarry gated after
+        unfolding afterCarry gated after
         gate-ends = sym (ap (λ (f : Configuration). f .state) (carry .failed) ∙ rw two)
 
         failed-states : tabulate 6 (λ k. setTo c (arrow c r p e 0) (linesUsed r p e) k (stateOf a k)) ≡ d .state
@@ -264,12 +264,10 @@ module _
       made-singly = carry-makes c r p a e (single-carried c r p a e (K .cell-passes) (here .six) (here .eight) most is)
 
       passed-made : configurationAfter c r p a e 1 ≡ b
-      unfolding x
       passed-made =
           joined 1 b (states-step 1 (follows-passed c r p e) ∙ passed-states) (carry-places b 1 (carry .kind) (made-singly .0))
 
       failed-made : configurationAfter c r p a e 0 ≡ d
-      unfolding x
       failed-made = decide (eqb (kindOf r p) 1) refl
         where
           decide : (t : Bool) → eqb (kindOf r p) 1 ≡ t → configurationAfter c r p a e 0 ≡ d
