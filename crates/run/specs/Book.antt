@@ -72,14 +72,14 @@ movedTo c r p e n v =
     (cond (eqb (entryKind e) 3 && eqb (kindOf r p) 1) (placed c r p (letter e) n v) v)
 
 -- "outcome 0 follows that line, in the book of 01 too": the line that is followed for letter j's line
-unfoldable pub arrow : Cell → Recipe → ℕ → ℕ → ℕ → ℕ → ℕ
-arrow c r p e outcome j =
+unfoldable pub lineFollowed : Cell → Recipe → ℕ → ℕ → ℕ → ℕ → ℕ
+lineFollowed c r p e outcome j =
     cond (eqb (entryKind e) 3 && (eqb (kindOf r p) 2 && eqb outcome 0)) (gateOf c (letter e j)) (letter e j)
 
 unfoldable pub configurationAfter : Cell → Recipe → ℕ → Configuration → ℕ → ℕ → Configuration
 configurationAfter c r p a e outcome =
     record {
-      state = tabulate 6 (λ k. setTo c (arrow c r p e outcome) (linesUsed r p e) k (stateOf a k));
+      state = tabulate 6 (λ k. setTo c (lineFollowed c r p e outcome) (linesUsed r p e) k (stateOf a k));
       place = tabulate 8 (λ q. movedTo c r p e q (placeOf a q));
     }
 

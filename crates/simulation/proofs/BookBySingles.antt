@@ -34,7 +34,7 @@ use Rattle.steps.proofs.Effects.{do-same, leads-silent, do-leads, passed-leads,
 use Rattle.steps.proofs.SingleEffects.{single-silent, single-carried}
 use Rattle.steps.proofs.SingleMoves.{SilentMove, internal, transfer, silent-move, carry-makes, do-places, test-places, hands-over, hands-keeps}
 use Rattle.steps.proofs.OpenByKind.{end-opens, opens-joint}
-use Rattle.run.specs.Book.{Book, atEnd, isOpen, setTo, movedTo, arrow, configurationAfter, pointAfter, made}
+use Rattle.run.specs.Book.{Book, atEnd, isOpen, setTo, movedTo, lineFollowed, configurationAfter, pointAfter, made}
 use Rattle.simulation.specs.Simulation.{Position}
 use Rattle.simulation.proofs.CellMachine.{position-point, position-kind}
 
@@ -85,12 +85,12 @@ sets-same c ls ms same (suc n) k s = rw (same n, sets-same c ls ms same n k s)
 
 -- which lines are followed
 module _ (c : Cell) (r : Recipe) (p e : ℕ) where
-  follows-silent : (outcome : ℕ) → (entryKind e ≡ 3 → ⊥) → (j : ℕ) → arrow c r p e outcome j ≡ letter e j
-  unfolding arrow
+  follows-silent : (outcome : ℕ) → (entryKind e ≡ 3 → ⊥) → (j : ℕ) → lineFollowed c r p e outcome j ≡ letter e j
+  unfolding lineFollowed
   follows-silent outcome quiet j = rw (ne-eqb (entryKind e) 3 quiet)
 
-  follows-passed : (j : ℕ) → arrow c r p e 1 j ≡ letter e j
-  unfolding arrow
+  follows-passed : (j : ℕ) → lineFollowed c r p e 1 j ≡ letter e j
+  unfolding lineFollowed
   follows-passed j = decide (eqb (entryKind e) 3) (eqb (kindOf r p) 2)
     where
       decide : (s t : Bool) → cond (s && (t && false)) (gateOf c (letter e j)) (letter e j) ≡ letter e j
@@ -98,8 +98,8 @@ module _ (c : Cell) (r : Recipe) (p e : ℕ) where
       decide true false = refl
       decide false t = refl
 
-  follows-do : (outcome : ℕ) → kindOf r p ≡ 1 → (j : ℕ) → arrow c r p e outcome j ≡ letter e j
-  unfolding arrow
+  follows-do : (outcome : ℕ) → kindOf r p ≡ 1 → (j : ℕ) → lineFollowed c r p e outcome j ≡ letter e j
+  unfolding lineFollowed
   follows-do outcome work j = rw work (decide (eqb (entryKind e) 3))
     where
       decide : (s : Bool) → cond (s && false) (gateOf c (letter e j)) (letter e j) ≡ letter e j
@@ -142,21 +142,21 @@ module _
     -- the states, where the letters' own lines are followed
     states-step :
         (outcome : ℕ)
-        → ((j : ℕ) → arrow c r p e outcome j ≡ letter e j)
-        → tabulate 6 (λ k. setTo c (arrow c r p e outcome) (linesUsed r p e) k (stateOf a k)) ≡ after c (stepOf c r p e) a .state
+        → ((j : ℕ) → lineFollowed c r p e outcome j ≡ letter e j)
+        → tabulate 6 (λ k. setTo c (lineFollowed c r p e outcome) (linesUsed r p e) k (stateOf a k)) ≡ after c (stepOf c r p e) a .state
     unfolding after stepOf
     states-step outcome own =
         tabulate-same
-        (λ k. setTo c (arrow c r p e outcome) (linesUsed r p e) k (stateOf a k))
+        (λ k. setTo c (lineFollowed c r p e outcome) (linesUsed r p e) k (stateOf a k))
         (λ k. stateAfter c (only c (letter e) (linesUsed r p e) k) (stateOf a k))
         6
-        (λ k low. sets-same c (arrow c r p e outcome) (letter e) own (linesUsed r p e) k (stateOf a k)
+        (λ k low. sets-same c (lineFollowed c r p e outcome) (letter e) own (linesUsed r p e) k (stateOf a k)
         ∙ sets c (letter e) (linesUsed r p e) k (stateOf a k))
 
     -- the book's configuration, by its states and its places
     joined :
         (outcome : ℕ) (b : Configuration)
-        → tabulate 6 (λ k. setTo c (arrow c r p e outcome) (linesUsed r p e) k (stateOf a k)) ≡ b .state
+        → tabulate 6 (λ k. setTo c (lineFollowed c r p e outcome) (linesUsed r p e) k (stateOf a k)) ≡ b .state
         → tabulate 8 (λ n. movedTo c r p e n (placeOf a n)) ≡ b .place
         → configurationAfter c r p a e outcome ≡ b
     unfolding configurationAfter
@@ -237,8 +237,8 @@ module _
 
         sets-gate :
             (k s : ℕ)
-            → setTo c (arrow c r p e 0) (linesUsed r p e) k s ≡ cond (eqb k station) (toOf c (gateOf c (letter e 0))) s
-        unfolding setTo arrow
+            → setTo c (lineFollowed c r p e 0) (linesUsed r p e) k s ≡ cond (eqb k station) (toOf c (gateOf c (letter e 0))) s
+        unfolding setTo lineFollowed
         sets-gate k s = rw (used, carry .kind, two, gate-resource c (letter e 0))
 
         rests-elsewhere : (k : ℕ) → (k ≡ station → ⊥) → x k ≡ rests
@@ -249,10 +249,10 @@ module _
         unfolding afterCarry gated after
         gate-ends = sym (ap (λ (f : Configuration). f .state) (carry .failed) ∙ rw two)
 
-        failed-states : tabulate 6 (λ k. setTo c (arrow c r p e 0) (linesUsed r p e) k (stateOf a k)) ≡ d .state
+        failed-states : tabulate 6 (λ k. setTo c (lineFollowed c r p e 0) (linesUsed r p e) k (stateOf a k)) ≡ d .state
         unfolding stateAfter
         failed-states =
-            let set-to : ℕ → ℕ = λ k. setTo c (arrow c r p e 0) (linesUsed r p e) k (stateOf a k) in
+            let set-to : ℕ → ℕ = λ k. setTo c (lineFollowed c r p e 0) (linesUsed r p e) k (stateOf a k) in
             let stepped : ℕ → ℕ = λ k. stateAfter c (x k) (stateOf a k) in
             sym
             (tabulate-set stepped set-to 6 station station-low

@@ -22,7 +22,7 @@ use Rattle.steps.specs.Joint.{mayDo, acts, actsOn, howMany, portFits, isStep, i
 use Rattle.steps.specs.Carry.{serves, matches, standsAt, present, free, suits, carries, putThere, placed, partsMoved, afterCarry, isFree}
 use Rattle.steps.specs.Entry.{entryKind, letter, unused, linesUsed, carryLetters, lettersUsed, namesGate, isLine, isFormed, only, stepOf, mayBeTaken}
 use Rattle.steps.specs.Effect.{taken, effect, isMove, opens, leaves, makes, leadsTo}
-use Rattle.run.specs.Book.{Call, reports, opened, byTable, atEnd, isOpen, refusalOf, setTo, movedTo, arrow, configurationAfter, pointAfter, made}
+use Rattle.run.specs.Book.{Call, reports, opened, byTable, atEnd, isOpen, refusalOf, setTo, movedTo, lineFollowed, configurationAfter, pointAfter, made}
 use Rattle.run.specs.Book.{isAccepted, turned, noted, moments}
 use Rattle.run.specs.Promises.{fewSilent}
 use Rattle.simulation.specs.Simulation.{Position}
@@ -54,7 +54,7 @@ unfolding isOf firstBelow anyBelow allBelow countBelow greatestBelow tabulate fi
     recipe.clashes recipe.breaksRepeat recipe.rule8 recipe.breaksUnused recipe.rule9 recipe.lacksParts recipe.rule10 recipe.holdsPart
     recipe.common recipe.sharesPart recipe.rule11 recipe.pointCount recipe.leadsOut recipe.rule12 recipe.recipeRules sumBelow productBelow
     stateCount stateCounts partsIn partCount jointCount sizesFor stateNumber placeNumber positionOf recordRules rule13 checkSizes placeCount
-    isPosition firstLineOf linesOf kindOf opened byTable atEnd isOpen refusalOf setTo movedTo arrow configurationAfter pointAfter made isAccepted
+    isPosition firstLineOf linesOf kindOf opened byTable atEnd isOpen refusalOf setTo movedTo lineFollowed configurationAfter pointAfter made isAccepted
     turned noted moments every fewSilent entryOf filled laneCell laneRecipe shuttleTable madePart mayDo acts actsOn howMany portFits isStep
     isSilentStep load keepsLimits noneOverfull gateAmong gateOf gated suits stateAfter receiver handed placeAfter after serves matches standsAt present free
     carries putThere placed partsMoved afterCarry entryKind letter unused linesUsed carryLetters lettersUsed namesGate isLine isFormed only stepOf mayBeTaken taken effect

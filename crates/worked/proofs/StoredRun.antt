@@ -18,7 +18,7 @@ use Rattle.steps.specs.Carry.{serves, matches, standsAt, present, free, suits, 
 use Rattle.steps.specs.Entry.{entryKind, letter, unused, linesUsed, carryLetters, lettersUsed, namesGate, isLine, isFormed, only, stepOf, mayBeTaken}
 use Rattle.steps.specs.Effect.{taken, effect, isMove, opens, leaves, makes, leadsTo}
 use Rattle.run.specs.Calls.{freshRun, tableRules, entryRules, rule17, rule18, rule19, moveRules, reportRules, nextMove, nextRun, reportOf}
-use Rattle.run.specs.Book.{opened, byTable, atEnd, isOpen, refusalOf, setTo, movedTo, arrow, configurationAfter, pointAfter}
+use Rattle.run.specs.Book.{opened, byTable, atEnd, isOpen, refusalOf, setTo, movedTo, lineFollowed, configurationAfter, pointAfter}
 use Rattle.run.specs.Book.{made, isAccepted, turned, noted, answer, moments, answers, issuedBy, issued}
 use Rattle.run.specs.Promises.{Promises, agree, rightly, neverShut, everyIssue, wasOpen, ofCarries, foundParts, carriedPoint, fewSilent, neverOverfull}
 use Rattle.run.proofs.CallsByValue.{runAfter, runAnswer, runAnswers, chain-answers}
@@ -41,7 +41,7 @@ unfolding isOf firstBelow anyBelow allBelow countBelow greatestBelow tabulate fi
     recipe.common recipe.sharesPart recipe.rule11 recipe.pointCount recipe.leadsOut recipe.rule12 recipe.recipeRules sumBelow productBelow
     stateCount stateCounts partsIn partCount jointCount sizesFor start stateNumber placeNumber positionOf recordRules rule13 rule14
     placeCount isPosition rule16 firstLineOf linesOf kindOf thenOf elseOf isTaken isGiven freshRun entryOf tableRules entryRules rule17 rule18 rule19
-    moveRules reportRules nextMove nextRun reportOf opened byTable atEnd isOpen refusalOf setTo movedTo arrow configurationAfter pointAfter made
+    moveRules reportRules nextMove nextRun reportOf opened byTable atEnd isOpen refusalOf setTo movedTo lineFollowed configurationAfter pointAfter made
     isAccepted turned noted answer moments answers issuedBy issued refusalIn runAfter runAnswer runAnswers every agree rightly neverShut
     everyIssue wasOpen foundParts carriedPoint fewSilent neverOverfull filled benchCell benchEntry forgottenRecipe storedTable mayDo acts actsOn
     howMany portFits isStep isSilentStep load keepsLimits noneOverfull gateAmong gateOf gated suits stateAfter receiver handed placeAfter after serves matches
