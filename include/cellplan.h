@@ -19,6 +19,12 @@
  * the line count; in a record handed in these count for nothing. The reader of cells leaves 8 in each
  * limit.
  *
+ * A recipe comes in chapters, numbered from 0: what a call is handed as `recipes` are 1 to
+ * CELLPLAN_MOST_CHAPTERS recipe records one after another, each of them a recipe by itself. Their number is
+ * recipes_length / CELLPLAN_RECIPE_BYTES, and a rest counts for nothing. An end of one chapter leads to point
+ * 0 of the next in the same states, with the parts in the same places; an end of the last is the end. A
+ * recipe of one file is one chapter. Install alone takes one recipe record and no more.
+ *
  * The act of a cell line is 0 internal, 1 operation, 2 in, 3 out or 4 reject gate. A test is carried by an
  * act 1 line. If its resource has an act 4 line with the same from and arg, outcome 0 of the test ends in
  * that line's `to` and outcome 1 in the act 1 line's; else both end in the act 1 line's. Act 1 lines with
@@ -26,18 +32,21 @@
  * lines alone. An act 4 line counts as a line of its resource, also for its number of states.
  *
  * A run has CELLPLAN_RUN_BYTES bytes: the point, the states of the resources 0 to 5, the places of the
- * parts 0 to 7. A place is 0 outside the cell and k + 1 at resource k. Resources and parts that aren't
- * there have 0.
+ * parts 0 to 7, the chapter, of whose points the point is one. A place is 0 outside the cell and k + 1 at
+ * resource k. Resources and parts that aren't there have 0. A run that was kept before there were chapters
+ * lacks the last byte; with 0 there it is the same run, and its table the table of one chapter.
  *
- * Of a record or run that is longer, the bytes past its end count for nothing and stay as they were. A
- * record that is shorter counts as one of no lines (3), a run that is shorter as one out of range (16).
+ * Of a cell record or a run that is longer, and of a longer recipe of install, the bytes past its end count
+ * for nothing and stay as they were. A shorter cell record, and a shorter recipe of install, counts as one of
+ * no lines (3), a shorter run as one out of range (16). Recipes shorter than one record are none (24).
  *
  * A table has an entry for each position. With R resources, J the product of their numbers of states,
- * P parts and W = (R+1)^P, the position of a run is
+ * P parts and W = (R+1)^P, the position of a run in its chapter is
  *     (point * J + j) * W + w,
  * j being the sum of each resource's state times the numbers of states of all lower resources
- * multiplied, and w the sum of place n times (R+1)^n. M = N * J * W is the number of positions, N being
- * the number of points. An entry is 0 or
+ * multiplied, and w the sum of place n times (R+1)^n. M = N * J * W is the number of a chapter's positions,
+ * N being the number of its points; P counts over all chapters. The chapters' tables stand one after another,
+ * so that the table of a chapter begins at the sum of the M of those before it. An entry is 0 or
  *     kind * 16777216 + a + 64 * b + 4096 * c + 262144 * d,
  * the letters being numbers of cell lines from 0, and 0 where they are unused:
  *     kind 1  the internal line a;
@@ -45,7 +54,8 @@
  *     kind 3  carry: of a do, a to d are the cell lines for the point's recipe lines in order; of a test,
  *             a is the act 1 line, and b the line that outcome 0 follows: the act 4 line of a's resource,
  *             from and arg, or a itself if there is none;
- *     kind 4  the run is at an end; no letter is used.
+ *     kind 4  the run is at an end; no letter is used. A planned table has it at an end of an earlier
+ *             chapter exactly if point 0 of the next has an entry other than 0 in the same states and places.
  * A table that was made before there was an act 4 has b = 0 in the entries of tests. For a recipe with
  * tests it must be planned again: such an entry gets 18, unless a is line 0 and has no act 4 line.
  *
@@ -59,6 +69,7 @@
  * the line is the first that breaks the rule, and of a pair the later one.
  *      1  The names line differs or lacks byte 10.
  *      2  A value line has another count of numbers, another form or no byte 10.
+ *     24  Recipes: there are no chapters, or more than CELLPLAN_MOST_CHAPTERS. (See 24 below too.)
  *      3  There are no value lines, or over 64. (No line is named.)
  *      4  A number leaves its range. In a cell record: first one of its lines, then one of its limits.
  *         (A record's limit names no line.)
@@ -79,25 +90,29 @@
  *     22  Plan and install: no chain of `then` and `else` from point 0 reaches some point of the recipe.
  *         The readers, check and the run's calls don't try it, so that such a recipe is read, checked and
  *         followed with a stored table as any other.
- *     13  M exceeds CELLPLAN_MOST_POSITIONS.
- *     14  The table has fewer than M entries, or the scratch of plan or install fewer than (M + 7) / 8
- *         bytes, a bit for each position. Of read_cell, read_recipe and fresh: the buffer lent for the
- *         record or the run is too short. That is tried before all else, names no line, and leaves the
- *         buffer as it was.
+ *     24  Recipes: point 0 of a chapter that isn't the last is an end.
+ *     13  M exceeds CELLPLAN_MOST_POSITIONS in some chapter.
+ *     14  The table has fewer entries than all M together, or the scratch of plan or install fewer than
+ *         (M + 7) / 8 bytes, a bit for each position of the chapter that has most. Of read_cell, read_recipe
+ *         and fresh: the buffer lent for the record or the run is too short. That is tried before all else,
+ *         names no line, and leaves the buffer as it was.
  *     21  Install: the cell has 64 lines already, so that there is no place for another one.
- *     15  Planner: the cell cannot build the recipe so that no resource ever holds more parts than its
- *         limit. The table is filled all the same.
- *     16  Run: a point of N or more, a state or place outside its count, or a number other than 0 for a
- *         resource or part that isn't there.
+ *     15  Planner: the cell cannot build the recipe, all chapters one after another, so that no resource ever
+ *         holds more parts than its limit. The tables of all chapters are filled all the same.
+ *     16  Run: a chapter that isn't there, a point of its N or more, a state or place outside its count, or a
+ *         number other than 0 for a resource or part that isn't there.
  *     17  Report: the outcome is above 1.
  *     18  Run: the entry isn't a move open here, 0 included, or not in the stated form. A move of kind
  *         1, 2 or 3 is open only if no resource holds more parts than its limit after it; what one held
  *         before doesn't matter.
- *     19  Report: the run is at an end.
- * A call that is handed records tries the cell's rules from 3 on, then the recipe's from 3 to 12, then 22
- * if it plans, then those from 13 on that are its own; read_limits tries the cell's from 3 on, and then
- * its file's from 1 on. A call that refuses changes nothing, but for read_cell and read_recipe, which write
- * a record of no lines, and for the planner where it refuses with 15.
+ *     19  Report: the run is at an end, be it of the last chapter or of an earlier one. A run comes to an
+ *         earlier one only if it is handed in there, for what leads to it lands on the next chapter.
+ * A call that is handed recipes tries 24 for their number; then the cell's rules from 3 on; then, chapter by
+ * chapter, the recipe's from 3 to 12, 22 if it plans, and 24 unless the chapter is the last; then 13 for each
+ * chapter; then those from 14 on that are its own. Install tries the cell's from 3 on, the recipe's from 3 to
+ * 12, 22, 13, 14 and 21; read_limits the cell's from 3 on, and then its file's from 1 on. A call that refuses
+ * changes nothing, but for read_cell and read_recipe, which write a record of no lines, and for the planner
+ * where it refuses with 15.
  */
 #ifndef CELLPLAN_H
 #define CELLPLAN_H
@@ -111,12 +126,21 @@ extern "C" {
 
 #define CELLPLAN_CELL_BYTES 327
 #define CELLPLAN_RECIPE_BYTES 449
-#define CELLPLAN_RUN_BYTES 15
+#define CELLPLAN_RUN_BYTES 16
 
-/* The most positions that rule 13 lets pass. A table of so many entries is never too short. */
+/* The most chapters of a recipe. */
+#define CELLPLAN_MOST_CHAPTERS 8
+
+/*
+ * The most positions of a chapter that rule 13 lets pass. A table of so many entries is never too short for
+ * one chapter, as for install.
+ */
 #define CELLPLAN_MOST_POSITIONS 1048576
 
-/* Bytes with a bit for each of these positions. A scratch of so many is never too short. */
+/* The most positions of all chapters together. A table of so many entries is never too short. */
+#define CELLPLAN_MOST_ENTRIES 8388608
+
+/* Bytes with a bit for each position of the greatest chapter. A scratch of so many is never too short. */
 #define CELLPLAN_MOST_SCRATCH_BYTES ((CELLPLAN_MOST_POSITIONS + 7) / 8)
 
 /*
@@ -179,42 +203,44 @@ size_t cellplan_line_start(const uint8_t *file, size_t file_length, size_t n);
 size_t cellplan_line_length(const uint8_t *file, size_t file_length, size_t n);
 
 /*
- * Checks a cell record and a recipe record: the result is the first refusal of the rules 3 to 13, 20 and
- * 23 in their places among them and 22 not, or 0. Which line breaks a rule is not said; a reader says that
- * of the file.
+ * Checks a cell record and recipe records: the result is the first refusal of the rules 3 to 13, with 20, 23
+ * and 24 in their places among them and 22 not, or 0. Which line of which chapter breaks a rule is not said; a
+ * reader says that of the file.
  */
 uint32_t cellplan_check(const uint8_t *cell, size_t cell_length,
-                        const uint8_t *recipe, size_t recipe_length);
+                        const uint8_t *recipes, size_t recipes_length);
 
 /*
- * Plans: fills the first M entries of the table. An entry is other than 0 exactly at the positions from
- * which the recipe can be followed to an end, or for ever, whatever the outcomes of its tests, while no
- * resource ever holds more parts than its limit, at the position itself and at an end too; it is then the
- * move to make there. The scratch, a bit for each position in (M + 7) / 8 bytes or more, may hold anything
- * before. The result is 0, or the refusal, of which the last are tried in the order 22, 13, 14, 15; it is
- * 15 if position 0 has entry 0. Accepted, and refused with 15, the entries past M keep their content,
- * and what the scratch then holds is free; refused otherwise, both stay as they were.
+ * Plans: fills the tables of all chapters, as many entries as all M together. An entry is other than 0
+ * exactly at the positions from which the chapter and all behind it can be followed to the end, or for ever,
+ * whatever the outcomes of their tests, while no resource ever holds more parts than its limit, at the
+ * position itself and at an end too; it is then the move to make there. An end of an earlier chapter is such
+ * a position exactly if point 0 of the next is one. The scratch, a bit for each position of the chapter that
+ * has most in (M + 7) / 8 bytes or more, may hold anything before. The result is 0, or the refusal, of which
+ * the last are tried in the order 13, 14, 15; it is 15 if entry 0 of the table is 0, and a later chapter that
+ * would get 15 by itself is no reason. Accepted, and refused with 15, the entries past all M together keep
+ * their content, and what the scratch then holds is free; refused otherwise, both stay as they were.
  */
 uint32_t cellplan_plan(const uint8_t *cell, size_t cell_length,
-                       const uint8_t *recipe, size_t recipe_length,
+                       const uint8_t *recipes, size_t recipes_length,
                        uint32_t *table, size_t table_entries,
                        uint8_t *scratch, size_t scratch_length);
 
 /*
- * Lists the processes that the cell lacks: every operation line (act 1) that isn't in the cell and that
- * alone, added behind the cell's lines, makes the cell able to build the recipe within its limits. Such a
- * line has a resource of the cell, states that this resource has already, and the operation of a do or a
- * test of the recipe. If the cell has an act 4 line of that resource, from and operation, a test by the
- * new line has it as its gate; an act 4 line is itself no process, whatever its numbers. Nothing is listed
- * if the cell can build the recipe as it is. The result is
+ * Lists the processes that the cell lacks for one recipe, which has no further chapters: every operation
+ * line (act 1) that isn't in the cell and that alone, added behind the cell's lines, makes the cell able to
+ * build the recipe within its limits. Such a line has a resource of the cell, states that this resource has
+ * already, and the operation of a do or a test of the recipe. If the cell has an act 4 line of that resource,
+ * from and operation, a test by the new line has it as its gate; an act 4 line is itself no process, whatever
+ * its numbers. Nothing is listed if the cell can build the recipe as it is. The result is
  *     refusal * 2^32 + count,
  * with count 0 if refused. The last refusals are tried in the order 22, 13, 14, 21; 21 is given also if
  * nothing is lacking, and 15 never. Accepted, the list gets, for each process,
  *     resource, from, operation, to,
  * rising by these four numbers in this order, each once, as far as whole ones fit. The bytes of the list
  * past these stay as they were, and the count is that of all processes, those too for which there was no
- * place. Table and scratch have the lengths that plan wants, a bit of scratch for each position; what they
- * hold afterwards is free. Refused, all three stay as they were.
+ * place. Table and scratch have the lengths that plan wants for that one recipe; what they hold afterwards is
+ * free. Refused, all three stay as they were.
  */
 uint64_t cellplan_install(const uint8_t *cell, size_t cell_length,
                           const uint8_t *recipe, size_t recipe_length,
@@ -223,8 +249,8 @@ uint64_t cellplan_install(const uint8_t *cell, size_t cell_length,
                           uint8_t *list, size_t list_length);
 
 /*
- * Writes the fresh run: point 0, every resource in state 0, every part outside. The result is 0, or 14
- * if the buffer is too short. Bytes of a longer buffer past the run stay as they were.
+ * Writes the fresh run: point 0 of chapter 0, every resource in state 0, every part outside. The result is 0,
+ * or 14 if the buffer is too short. Bytes of a longer buffer past the run stay as they were.
  */
 uint32_t cellplan_fresh(uint8_t *run, size_t run_length);
 
@@ -232,21 +258,22 @@ uint32_t cellplan_fresh(uint8_t *run, size_t run_length);
  * The entry at the run's position. The result is
  *     refusal * 2^32 + entry,
  * with entry 0 if refused and refusal 0 if not. The refusals from 13 on are tried in the order 13, 14,
- * 16, 18. At an end the entry is 67108864, kind 4.
+ * 16, 18. At an end, of an earlier chapter too, the entry is 67108864, kind 4.
  */
 uint64_t cellplan_next_move(const uint8_t *cell, size_t cell_length,
-                            const uint8_t *recipe, size_t recipe_length,
+                            const uint8_t *recipes, size_t recipes_length,
                             const uint32_t *table, size_t table_entries,
                             const uint8_t *run, size_t run_length);
 
 /*
  * Makes the move at the run's position and puts the next run in the run's place. A carried do goes to
  * its point's `then`; a test goes to `then` on outcome 1, its resource following line a, and to `else` on
- * outcome 0, its resource following line b; other moves ignore the outcome. The result is 0, or the
- * refusal, and then the run stays. The refusals from 13 on are tried in the order 13, 14, 16, 17, 18, 19.
+ * outcome 0, its resource following line b; other moves ignore the outcome. Where that is an end of a
+ * chapter that isn't the last, the run goes on to point 0 of the next. The result is 0, or the refusal, and
+ * then the run stays. The refusals from 13 on are tried in the order 13, 14, 16, 17, 18, 19.
  */
 uint32_t cellplan_report(const uint8_t *cell, size_t cell_length,
-                         const uint8_t *recipe, size_t recipe_length,
+                         const uint8_t *recipes, size_t recipes_length,
                          const uint32_t *table, size_t table_entries,
                          uint8_t *run, size_t run_length, uint8_t outcome);
 
@@ -258,10 +285,11 @@ struct cellplan_run {
     uint8_t point;
     uint8_t state[6];
     uint8_t place[8];
+    uint8_t chapter;
 };
 
 uint32_t cellplan_report_record(const uint8_t *cell, size_t cell_length,
-                                const uint8_t *recipe, size_t recipe_length,
+                                const uint8_t *recipes, size_t recipes_length,
                                 const uint32_t *table, size_t table_entries,
                                 struct cellplan_run *run, uint8_t outcome);
 
@@ -269,10 +297,10 @@ uint32_t cellplan_report_record(const uint8_t *cell, size_t cell_length,
  * The place of a part. The result is
  *     refusal * 256 + place,
  * with place 255 if refused, and refusal 0 with place 255 for a part number of P or more, P being the
- * greatest part number in the recipe plus 1. The refusals from 13 on are tried in the order 13, 16.
+ * greatest part number in any chapter plus 1. The refusals from 13 on are tried in the order 13, 16.
  */
 uint32_t cellplan_place(const uint8_t *cell, size_t cell_length,
-                        const uint8_t *recipe, size_t recipe_length,
+                        const uint8_t *recipes, size_t recipes_length,
                         const uint8_t *run, size_t run_length, uint8_t part);
 
 /*

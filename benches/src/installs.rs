@@ -44,15 +44,15 @@ impl Gap {
         let Case {
             name,
             cell,
-            recipe,
+            recipes,
             table,
             scratch,
             ..
         } = &mut self.case;
-        assert_eq!(Library::plan(cell, recipe, table, scratch), 15, "{name}");
+        assert_eq!(Library::plan(cell, recipes, table, scratch), 15, "{name}");
         let mut other = self.list.clone();
-        let answer = Library::install(cell, recipe, table, scratch, &mut self.list);
-        let expected = Independent::install(cell, recipe, table, scratch, &mut other);
+        let answer = Library::install(cell, recipes, table, scratch, &mut self.list);
+        let expected = Independent::install(cell, recipes, table, scratch, &mut other);
         assert!(answer == expected && self.list == other, "{name}");
         answer
     }

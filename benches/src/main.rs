@@ -1,10 +1,12 @@
 //! Times the library through the C interface beside the independent program: the readers, the calls of
 //! a run, and the planner, this also beside the same search in plain Rust. The search for set bytes is timed
-//! beside plain Rust alone, and the list of processes to install beside the library's planner.
+//! beside plain Rust alone, the list of processes to install beside the library's planner, and recipes in
+//! chapters beside a single one.
 //!
-//! Run with `cargo run --release --offline -p benches`, followed by `readers`, `runs`, `marks`, `plans` or
-//! `installs` for these alone.
+//! Run with `cargo run --release --offline -p benches`, followed by `readers`, `runs`, `marks`, `plans`,
+//! `installs` or `chapters` for these alone.
 
+mod chapters;
 mod installs;
 mod marks;
 mod plain;
@@ -16,12 +18,13 @@ use std::env;
 use std::time::{Duration, Instant};
 
 /// The parts of the benchmark by their names.
-const PARTS: [(&str, fn()); 5] = [
+const PARTS: [(&str, fn()); 6] = [
     ("readers", readers::measure_all),
     ("runs", runs::measure_all),
     ("marks", marks::measure_all),
     ("plans", plans::measure_all),
     ("installs", installs::measure_all),
+    ("chapters", chapters::measure_all),
 ];
 
 /// How long one round takes at least. Short rounds find the quiet moments of a busy machine.

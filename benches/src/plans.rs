@@ -4,16 +4,18 @@
 use crate::{best_times_of, plain};
 use against::calls::{Calls, Independent, Library};
 use against::independent::{
-    cell_bytes, cell_of_bytes, dense_pair, judge, long_ways_pair, mixed_pair, odometer_pair,
-    recipe_bytes, recipe_of_bytes, scratch_bytes, stations_reversed, with_gates, Cell, Random,
-    Recipe, Sizes,
+    cell_bytes, cell_of_bytes, chapters_bytes, chapters_of_bytes, dense_pair, judge,
+    long_ways_pair, mixed_pair, odometer_pair, recipe_of_bytes, stations_reversed, with_gates,
+    Cell, Joined, Random, Recipe,
 };
+use against::plans::needed;
 use against::{CellFile, Format, RecipeFile};
 use std::hint::black_box;
+use std::slice;
 use std::time::{Duration, Instant};
 
-const BENCH_CELL: &[u8] = include_bytes!("../../examples/bench/cell.csv");
-const BENCH_RECIPE: &[u8] = include_bytes!("../../examples/bench/recipe.csv");
+pub const BENCH_CELL: &[u8] = include_bytes!("../../examples/bench/cell.csv");
+pub const BENCH_RECIPE: &[u8] = include_bytes!("../../examples/bench/recipe.csv");
 
 /// How many rounds are measured of each program at least. The odometers take seconds.
 const LEAST_ROUNDS: usize = 7;
@@ -26,7 +28,7 @@ type Plan = fn(&[u8], &[u8], &mut [u32], &mut [u8]) -> u32;
 pub struct Case {
     pub name: String,
     pub cell: Vec<u8>,
-    pub recipe: Vec<u8>,
+    pub recipes: Vec<u8>,
     pub table: Vec<u32>,
     pub scratch: Vec<u8>,
     pub least_rounds: usize,
@@ -34,13 +36,18 @@ pub struct Case {
 
 impl Case {
     pub fn new(name: &str, (cell, recipe): (Cell, Recipe), least_rounds: usize) -> Case {
-        let positions = Sizes::of(&cell, &recipe).positions as usize;
+        Case::in_chapters(name, &cell, slice::from_ref(&recipe), least_rounds)
+    }
+
+    /// The same with several chapters.
+    pub fn in_chapters(name: &str, cell: &Cell, chapters: &[Recipe], least_rounds: usize) -> Case {
+        let [entries, scratch] = needed(&Joined::of(cell, chapters));
         Case {
             name: name.to_string(),
-            cell: cell_bytes(&cell).to_vec(),
-            recipe: recipe_bytes(&recipe).to_vec(),
-            table: vec![0; positions],
-            scratch: vec![0; scratch_bytes(positions as u64) as usize],
+            cell: cell_bytes(cell).to_vec(),
+            recipes: chapters_bytes(chapters),
+            table: vec![0; entries],
+            scratch: vec![0; scratch],
             least_rounds,
         }
     }
@@ -53,17 +60,33 @@ impl Case {
     ) -> Duration {
         let start = Instant::now();
         for _ in 0..calls {
-            let (cell, recipe) = (black_box(&self.cell[..]), black_box(&self.recipe[..]));
+            let (cell, recipes) = (black_box(&self.cell[..]), black_box(&self.recipes[..]));
             let (table, scratch) = (&mut self.table[..], &mut self.scratch[..]);
-            black_box(call(cell, recipe, black_box(table), black_box(scratch)));
+            black_box(call(cell, recipes, black_box(table), black_box(scratch)));
         }
         start.elapsed()
     }
 
     /// What a planner answers, and its table.
     fn planned(&mut self, plan: Plan) -> (u32, &[u32]) {
-        let refusal = plan(&self.cell, &self.recipe, &mut self.table, &mut self.scratch);
+        let refusal = plan(
+            &self.cell,
+            &self.recipes,
+            &mut self.table,
+            &mut self.scratch,
+        );
         (refusal, &self.table)
+    }
+
+    /// The library's answer, after a look at whether its table is allowed.
+    pub fn judged(&mut self) -> u32 {
+        let cell = cell_of_bytes(&self.cell);
+        let joined = Joined::of(&cell, &chapters_of_bytes(&self.recipes));
+        let name = self.name.clone();
+        let (refusal, table) = self.planned(Library::plan);
+        let judged = judge(&cell, &joined, table).map(u32::from);
+        assert_eq!(judged, Ok(refusal), "{name}");
+        refusal
     }
 
     /// The programs' answer, after a look at whether the library's table is allowed, and whether the two
@@ -73,15 +96,8 @@ impl Case {
         let table = table.to_vec();
         let independent = self.planned(Independent::plan);
         assert!(independent == (plain, &table[..]), "{}", self.name);
-
-        let (cell, recipe) = (cell_of_bytes(&self.cell), recipe_of_bytes(&self.recipe));
-        let (refusal, table) = self.planned(Library::plan);
-        let judged = judge(&cell, &recipe, table).map(u32::from);
-        assert_eq!((judged, plain), (Ok(refusal), refusal), "{}", self.name);
-        match refusal {
-            0 => "accepted",
-            _ => "refused 15",
-        }
+        assert_eq!(self.judged(), plain, "{}", self.name);
+        answer_of(plain)
     }
 
     /// Prints a line.
@@ -102,6 +118,14 @@ impl Case {
         print!("{:<27} {positions:>9} {answer:>10}", self.name);
         print!(" {library:>9.1} ns {plain:>9.1} ns {independent:>9.1} ns");
         println!(" {:>6.2} {:>6.2}", ratios[0], ratios[1]);
+    }
+}
+
+/// A planner's answer in words.
+pub fn answer_of(refusal: u32) -> &'static str {
+    match refusal {
+        0 => "accepted",
+        _ => "refused 15",
     }
 }
 
@@ -144,7 +168,7 @@ pub fn measure_all() {
     }
 }
 
-fn mixed(lines: usize, silent_moves: usize, seed: u64) -> (Cell, Recipe) {
+pub fn mixed(lines: usize, silent_moves: usize, seed: u64) -> (Cell, Recipe) {
     mixed_pair(lines, silent_moves, &mut Random(seed))
 }
 

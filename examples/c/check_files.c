@@ -1,11 +1,13 @@
 /*
- * Reads a cell file, a recipe file and, if there is one, a file of the most parts that stations may
- * hold, and says of each whether it is accepted.
+ * Reads a cell file, the recipe files of one chapter or more and, if there is one, a file of the most parts that
+ * stations may hold, and says of each whether it is accepted; of several chapters also whether they are accepted
+ * together.
  *
- *     check_files CELL RECIPE [LIMITS]
+ *     check_files [-l LIMITS] CELL RECIPE ..
  *
- * A missing file counts as empty. Limits are those of the cell, and aren't judged if it is refused. The
- * exit status is 0 if all files are accepted, else 1.
+ * A missing file counts as empty. Limits are those of the cell, and aren't judged if it is refused. There are up
+ * to eight files RECIPE, each of which is a chapter that goes on where the one before ends. The exit status is 0
+ * if all is accepted, else 1.
  */
 #include <errno.h>
 #include <stdint.h>
@@ -140,21 +142,49 @@ static int check_limits(const char *path, uint8_t *cell, size_t cell_length)
     return accepted;
 }
 
+/* Checks a file of limits, unless the cell whose they are is refused. */
+static int check_limits_of(const char *path, int cell_accepted, uint8_t *cell, size_t cell_length)
+{
+    if (cell_accepted)
+        return check_limits(path, cell, cell_length);
+    printf("%s: not judged, as the cell is refused\n", base_name(path));
+    return 0;
+}
+
+/* Checks the chapters together, all of whose files are accepted. */
+static int check_chapters(const uint8_t *cell, const uint8_t *recipes, size_t count)
+{
+    uint32_t refusal = cellplan_check(cell, CELLPLAN_CELL_BYTES,
+                                      recipes, count * CELLPLAN_RECIPE_BYTES);
+
+    if (refusal == 0)
+        printf("together: accepted, %u chapters\n", (unsigned)count);
+    else
+        printf("together: refused %u\n", (unsigned)refusal);
+    return refusal == 0;
+}
+
 int main(int argc, char **argv)
 {
     uint8_t cell[CELLPLAN_CELL_BYTES];
-    uint8_t recipe[CELLPLAN_RECIPE_BYTES];
-    int cell_accepted, recipe_accepted, limits_accepted = 1;
+    uint8_t recipes[CELLPLAN_MOST_CHAPTERS * CELLPLAN_RECIPE_BYTES];
+    int has_limits = argc > 2 && strcmp(argv[1], "-l") == 0;
+    int first = has_limits ? 3 : 1;
+    int n, cell_accepted, accepted;
 
-    if (argc != 3 && argc != 4) {
-        fprintf(stderr, "usage: check_files CELL RECIPE [LIMITS]\n");
+    if (argc < first + 2 || argc > first + 1 + CELLPLAN_MOST_CHAPTERS) {
+        fprintf(stderr, "usage: check_files [-l LIMITS] CELL RECIPE ..\n");
         return EXIT_FAILURE;
     }
-    cell_accepted = check_lines(argv[1], cellplan_read_cell, cell, sizeof cell);
-    recipe_accepted = check_lines(argv[2], cellplan_read_recipe, recipe, sizeof recipe);
-    if (argc == 4 && cell_accepted)
-        limits_accepted = check_limits(argv[3], cell, sizeof cell);
-    else if (argc == 4)
-        printf("%s: not judged, as the cell is refused\n", base_name(argv[3]));
-    return cell_accepted && recipe_accepted && limits_accepted ? EXIT_SUCCESS : EXIT_FAILURE;
+    cell_accepted = check_lines(argv[first], cellplan_read_cell, cell, sizeof cell);
+    accepted = cell_accepted;
+    for (n = first + 1; n < argc; n++)
+        accepted &= check_lines(argv[n], cellplan_read_recipe,
+                                recipes + (n - first - 1) * CELLPLAN_RECIPE_BYTES,
+                                CELLPLAN_RECIPE_BYTES);
+    if (has_limits)
+        accepted &= check_limits_of(argv[2], cell_accepted, cell, sizeof cell);
+    if (accepted && argc > first + 2)
+        accepted = check_chapters(cell, recipes, (size_t)(argc - first - 1));
+    return accepted ? EXIT_SUCCESS : EXIT_FAILURE;
 }

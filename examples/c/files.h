@@ -1,6 +1,6 @@
 /*
- * What several of the examples do with files: they read a cell, perhaps its limits, and a recipe, show what
- * is refused, and end.
+ * What several of the examples do with files: they read a cell, perhaps its limits, and a recipe or the
+ * chapters of one, show what is refused, and end.
  */
 #ifndef FILES_H
 #define FILES_H
@@ -76,11 +76,17 @@ static void read_record(const char *what, const char *path, reader *read,
         refuse_file(what, result, bytes, length);
 }
 
+static void show_usage(const char *usage)
+{
+    fprintf(stderr, "usage: %s\n", usage);
+    exit(EXIT_FAILURE);
+}
+
 /*
- * Reads the files that the arguments [-l LIMITS] CELL RECIPE name into two records; limits become part of the
- * cell's. Gives the number of the first argument behind them.
+ * Reads the files that the arguments [-l LIMITS] CELL name into a record; limits become part of it. Gives the
+ * number of the first argument behind them, which is there.
  */
-static int read_files(int argc, char **argv, const char *usage, uint8_t *cell, uint8_t *recipe)
+static int read_cell(int argc, char **argv, const char *usage, uint8_t *cell)
 {
     const char *limits = NULL;
     int n = 1;
@@ -89,15 +95,23 @@ static int read_files(int argc, char **argv, const char *usage, uint8_t *cell, u
         limits = argv[2];
         n = 3;
     }
-    if (argc < n + 2) {
-        fprintf(stderr, "usage: %s\n", usage);
-        exit(EXIT_FAILURE);
-    }
+    if (argc < n + 2)
+        show_usage(usage);
     read_record("cell", argv[n], cellplan_read_cell, cell, CELLPLAN_CELL_BYTES);
     if (limits != NULL)
         read_record("limits", limits, cellplan_read_limits, cell, CELLPLAN_CELL_BYTES);
-    read_record("recipe", argv[n + 1], cellplan_read_recipe, recipe, CELLPLAN_RECIPE_BYTES);
-    return n + 2;
+    return n + 1;
+}
+
+/* Reads a recipe file as the chapter of this number, of so many, into its place among the chapters' records. */
+static void read_chapter(const char *path, int chapter, int count, uint8_t *recipes)
+{
+    char what[24] = "recipe";
+
+    if (count > 1)
+        sprintf(what, "chapter %d", chapter);
+    read_record(what, path, cellplan_read_recipe,
+                recipes + chapter * CELLPLAN_RECIPE_BYTES, CELLPLAN_RECIPE_BYTES);
 }
 
 #endif

@@ -1,11 +1,13 @@
 /*
- * Follows a stored table: reads a cell file and a recipe file, begins a fresh run and prints each move
- * until an end, a refusal or the last outcome.
+ * Follows a stored table: reads a cell file and the recipe files of one chapter or more, begins a fresh run and
+ * prints each move until an end, a refusal or the last outcome.
  *
- *     follow CELL RECIPE TABLE OUTCOMES
+ *     follow CELL RECIPE .. TABLE OUTCOMES
  *
- * TABLE has a names line and then lines `position,entry`; a position without a line has entry 0.
- * OUTCOMES has a digit for each report, as in 0010. The exit status is 0, or 1 if something is refused.
+ * There are up to eight files RECIPE, each of which is a chapter that goes on where the one before ends. TABLE
+ * has a names line and then lines `position,entry`; a position without a line has entry 0, and the positions of
+ * a chapter count on behind those of the chapters before it. OUTCOMES has a digit for each report, as in 0010.
+ * The exit status is 0, or 1 if something is refused.
  */
 #include <stdint.h>
 #include <stdio.h>
@@ -26,10 +28,14 @@ typedef uint64_t reader(const uint8_t *file, size_t file_length,
 /* All that the calls on a run are handed. */
 struct plan {
     uint8_t cell[CELLPLAN_CELL_BYTES];
-    uint8_t recipe[CELLPLAN_RECIPE_BYTES];
+    uint8_t recipes[CELLPLAN_MOST_CHAPTERS * CELLPLAN_RECIPE_BYTES];
+    size_t recipes_length;
     uint32_t *table;
     size_t entries;
 };
+
+/* Where the point and the chapter stand in a run. */
+enum { RUN_POINT = 0, RUN_CHAPTER = CELLPLAN_RUN_BYTES - 1 };
 
 static FILE *open_file(const char *path)
 {
@@ -61,13 +67,21 @@ static void read_record(const char *what, const char *path, reader *read,
         refuse(what, CELLPLAN_REFUSAL(result));
 }
 
+/* Reads a recipe file as the next chapter. */
+static void read_chapter(const char *path, struct plan *plan)
+{
+    read_record("recipe", path, cellplan_read_recipe,
+                plan->recipes + plan->recipes_length, CELLPLAN_RECIPE_BYTES);
+    plan->recipes_length += CELLPLAN_RECIPE_BYTES;
+}
+
 /* Lines of another form end the table, and positions past the greatest are left out. */
 static void read_table(const char *path, struct plan *plan)
 {
     FILE *stream = open_file(path);
     unsigned long position, entry;
 
-    plan->entries = CELLPLAN_MOST_POSITIONS;
+    plan->entries = CELLPLAN_MOST_ENTRIES;
     plan->table = calloc(plan->entries, sizeof plan->table[0]);
     if (plan->table == NULL) {
         perror(path);
@@ -97,9 +111,14 @@ static void print_carry(const uint8_t *recipe, uint8_t point, uint32_t entry)
     }
 }
 
+/* Where there are several chapters, it is said in which one the run is. */
 static void print_move(const struct plan *plan, const uint8_t *run, uint32_t entry)
 {
-    printf("point %u, entry %lu: ", run[0], (unsigned long)entry);
+    const uint8_t *recipe = plan->recipes + CELLPLAN_RECIPE_BYTES * run[RUN_CHAPTER];
+
+    if (plan->recipes_length > CELLPLAN_RECIPE_BYTES)
+        printf("chapter %u, ", run[RUN_CHAPTER]);
+    printf("point %u, entry %lu: ", run[RUN_POINT], (unsigned long)entry);
     switch (CELLPLAN_KIND(entry)) {
     case 1:
         printf("internal line %u", CELLPLAN_LETTER(entry, 0));
@@ -109,7 +128,7 @@ static void print_move(const struct plan *plan, const uint8_t *run, uint32_t ent
         break;
     case 3:
         printf("carry by");
-        print_carry(plan->recipe, run[0], entry);
+        print_carry(recipe, run[RUN_POINT], entry);
         break;
     default:
         printf("end");
@@ -123,7 +142,7 @@ static void print_parts(const struct plan *plan, const uint8_t *run)
 
     for (part = 0; part < 8; part++) {
         uint32_t result = cellplan_place(plan->cell, sizeof plan->cell,
-                                         plan->recipe, sizeof plan->recipe,
+                                         plan->recipes, plan->recipes_length,
                                          run, CELLPLAN_RUN_BYTES, (uint8_t)part);
         unsigned place = CELLPLAN_PLACE(result);
 
@@ -140,7 +159,7 @@ static void print_parts(const struct plan *plan, const uint8_t *run)
 static int show_move(const struct plan *plan, const uint8_t *run)
 {
     uint64_t result = cellplan_next_move(plan->cell, sizeof plan->cell,
-                                         plan->recipe, sizeof plan->recipe,
+                                         plan->recipes, plan->recipes_length,
                                          plan->table, plan->entries, run, CELLPLAN_RUN_BYTES);
 
     if (CELLPLAN_MOVE_REFUSAL(result) != 0)
@@ -156,7 +175,7 @@ static void follow(const struct plan *plan, const char *outcomes)
     cellplan_fresh(run, sizeof run);
     while (show_move(plan, run) && *outcomes >= '0' && *outcomes <= '9') {
         uint32_t refusal = cellplan_report(plan->cell, sizeof plan->cell,
-                                           plan->recipe, sizeof plan->recipe,
+                                           plan->recipes, plan->recipes_length,
                                            plan->table, plan->entries,
                                            run, sizeof run, (uint8_t)(*outcomes - '0'));
         if (refusal != 0)
@@ -168,20 +187,22 @@ static void follow(const struct plan *plan, const char *outcomes)
 
 int main(int argc, char **argv)
 {
-    struct plan plan;
+    static struct plan plan;
     uint32_t refusal;
+    int n;
 
-    if (argc != 5) {
-        fprintf(stderr, "usage: follow CELL RECIPE TABLE OUTCOMES\n");
+    if (argc < 5 || argc > 4 + CELLPLAN_MOST_CHAPTERS) {
+        fprintf(stderr, "usage: follow CELL RECIPE .. TABLE OUTCOMES\n");
         return EXIT_FAILURE;
     }
     read_record("cell", argv[1], cellplan_read_cell, plan.cell, sizeof plan.cell);
-    read_record("recipe", argv[2], cellplan_read_recipe, plan.recipe, sizeof plan.recipe);
-    refusal = cellplan_check(plan.cell, sizeof plan.cell, plan.recipe, sizeof plan.recipe);
+    for (n = 2; n < argc - 2; n++)
+        read_chapter(argv[n], &plan);
+    refusal = cellplan_check(plan.cell, sizeof plan.cell, plan.recipes, plan.recipes_length);
     if (refusal != 0)
         refuse("cell and recipe", refusal);
-    read_table(argv[3], &plan);
-    follow(&plan, argv[4]);
+    read_table(argv[n], &plan);
+    follow(&plan, argv[n + 1]);
     free(plan.table);
     return EXIT_SUCCESS;
 }

@@ -75,8 +75,9 @@ int main(int argc, char **argv)
 {
     static struct work work;
     uint32_t count;
+    int n = read_cell(argc, argv, "install [-l LIMITS] CELL RECIPE", work.cell);
 
-    read_files(argc, argv, "install [-l LIMITS] CELL RECIPE", work.cell, work.recipe);
+    read_chapter(argv[n], 0, 1, work.recipe);
     lend(&work);
     count = install(&work);
     if (count == 0)

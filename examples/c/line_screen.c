@@ -1,12 +1,13 @@
 /*
- * A line screen: reads a cell file and a recipe file, plans, and follows the plan from a fresh run. Each
- * move is printed in words, and after each report where the parts are then; after a test also where its
- * outcome has led the station.
+ * A line screen: reads a cell file and the recipe files of one chapter or more, plans, and follows the plan from
+ * a fresh run. Each move is printed in words, and after each report where the parts are then; after a test also
+ * where its outcome has led the station.
  *
- *     line_screen [-l LIMITS] CELL RECIPE [OUTCOME ..]
+ *     line_screen [-l LIMITS] CELL RECIPE .. [OUTCOME ..]
  *
- * LIMITS is a file of the most parts that stations may hold; one that isn't in it may hold all. Each
- * OUTCOME, as 0 or 1, is that of one report. The exit status is 0, or 1 if something is refused.
+ * LIMITS is a file of the most parts that stations may hold; one that isn't in it may hold all. There are up
+ * to eight files RECIPE, each of which is a chapter that goes on where the one before ends. Each OUTCOME, a
+ * number as 0 or 1, is that of one report. The exit status is 0, or 1 if something is refused.
  */
 #include <stdint.h>
 #include <stdio.h>
@@ -22,9 +23,12 @@ enum { POINT, KIND, OP, TAKES, GIVES, THEN, ELSE, RECIPE_FIELDS };
 /* The kind of a test. */
 #define TEST 2
 
+#define USAGE "line_screen [-l LIMITS] CELL RECIPE .. [OUTCOME ..]"
+
 struct screen {
     uint8_t cell[CELLPLAN_CELL_BYTES];
-    uint8_t recipe[CELLPLAN_RECIPE_BYTES];
+    uint8_t recipes[CELLPLAN_MOST_CHAPTERS * CELLPLAN_RECIPE_BYTES];
+    size_t recipes_length;
     uint32_t *table;
     struct cellplan_run run;
 };
@@ -35,12 +39,12 @@ static void plan(struct screen *screen)
     uint8_t *scratch = malloc(CELLPLAN_MOST_SCRATCH_BYTES);
     uint32_t refusal;
 
-    screen->table = malloc(CELLPLAN_MOST_POSITIONS * sizeof screen->table[0]);
+    screen->table = malloc(CELLPLAN_MOST_ENTRIES * sizeof screen->table[0]);
     if (scratch == NULL || screen->table == NULL)
         fail("plan");
     refusal = cellplan_plan(screen->cell, sizeof screen->cell,
-                            screen->recipe, sizeof screen->recipe,
-                            screen->table, CELLPLAN_MOST_POSITIONS,
+                            screen->recipes, screen->recipes_length,
+                            screen->table, CELLPLAN_MOST_ENTRIES,
                             scratch, CELLPLAN_MOST_SCRATCH_BYTES);
     free(scratch);
     if (refusal != 0)
@@ -52,9 +56,21 @@ static const uint8_t *cell_line(const struct screen *screen, unsigned n)
     return screen->cell + 1 + CELL_FIELDS * n;
 }
 
+/* The recipe of the run's chapter. */
+static const uint8_t *recipe(const struct screen *screen)
+{
+    return screen->recipes + CELLPLAN_RECIPE_BYTES * screen->run.chapter;
+}
+
 static const uint8_t *recipe_line(const struct screen *screen, unsigned n)
 {
-    return screen->recipe + 1 + RECIPE_FIELDS * n;
+    return recipe(screen) + 1 + RECIPE_FIELDS * n;
+}
+
+/* Whether there are several chapters, so that it is said in which one the run is. */
+static int has_chapters(const struct screen *screen)
+{
+    return screen->recipes_length > CELLPLAN_RECIPE_BYTES;
 }
 
 /* The first recipe line of the run's point. */
@@ -83,7 +99,7 @@ static void print_carry(const struct screen *screen, uint32_t entry)
     unsigned first = first_line(screen);
     unsigned n = first;
 
-    for (; n < screen->recipe[0] && recipe_line(screen, n)[POINT] == screen->run.point; n++) {
+    for (; n < recipe(screen)[0] && recipe_line(screen, n)[POINT] == screen->run.point; n++) {
         const uint8_t *line = recipe_line(screen, n);
         unsigned station = cell_line(screen, CELLPLAN_LETTER(entry, n - first))[RESOURCE];
 
@@ -105,6 +121,8 @@ static void print_move(const struct screen *screen, uint32_t entry)
     const uint8_t *a = cell_line(screen, CELLPLAN_LETTER(entry, 0));
     const uint8_t *b = cell_line(screen, CELLPLAN_LETTER(entry, 1));
 
+    if (has_chapters(screen))
+        printf("chapter %u, ", screen->run.chapter);
     printf("point %u: ", screen->run.point);
     switch (CELLPLAN_KIND(entry)) {
     case 1:
@@ -129,7 +147,7 @@ static void print_parts(const struct screen *screen)
 
     for (part = 0; part < 8; part++) {
         uint32_t result = cellplan_place(screen->cell, sizeof screen->cell,
-                                         screen->recipe, sizeof screen->recipe,
+                                         screen->recipes, screen->recipes_length,
                                          (const uint8_t *)&screen->run, sizeof screen->run,
                                          (uint8_t)part);
         unsigned place = CELLPLAN_PLACE(result);
@@ -147,8 +165,8 @@ static void print_parts(const struct screen *screen)
 static uint32_t show_move(const struct screen *screen)
 {
     uint64_t result = cellplan_next_move(screen->cell, sizeof screen->cell,
-                                         screen->recipe, sizeof screen->recipe,
-                                         screen->table, CELLPLAN_MOST_POSITIONS,
+                                         screen->recipes, screen->recipes_length,
+                                         screen->table, CELLPLAN_MOST_ENTRIES,
                                          (const uint8_t *)&screen->run, sizeof screen->run);
 
     if (CELLPLAN_MOVE_REFUSAL(result) != 0)
@@ -157,16 +175,22 @@ static uint32_t show_move(const struct screen *screen)
     return CELLPLAN_MOVE_ENTRY(result);
 }
 
+/* Whether an argument is a number, and so an outcome and no file. */
+static int is_outcome(const char *text)
+{
+    return text[0] != '\0' && strspn(text, "0123456789") == strlen(text);
+}
+
 /* An outcome that no byte holds is refused as any other above 1. */
 static uint8_t outcome_of(const char *text)
 {
-    char *end;
-    unsigned long number = strtoul(text, &end, 10);
+    unsigned long number;
 
-    if (end == text || *end != '\0') {
+    if (!is_outcome(text)) {
         fprintf(stderr, "%s: no outcome\n", text);
         exit(EXIT_FAILURE);
     }
+    number = strtoul(text, NULL, 10);
     return number < 256 ? (uint8_t)number : 255;
 }
 
@@ -189,9 +213,10 @@ static void report(struct screen *screen, uint32_t entry, uint8_t outcome)
 {
     int is_test = CELLPLAN_KIND(entry) == 3
                   && recipe_line(screen, first_line(screen))[KIND] == TEST;
+    uint8_t chapter = screen->run.chapter;
     uint32_t refusal = cellplan_report_record(screen->cell, sizeof screen->cell,
-                                              screen->recipe, sizeof screen->recipe,
-                                              screen->table, CELLPLAN_MOST_POSITIONS,
+                                              screen->recipes, screen->recipes_length,
+                                              screen->table, CELLPLAN_MOST_ENTRIES,
                                               &screen->run, outcome);
 
     if (refusal != 0)
@@ -199,15 +224,35 @@ static void report(struct screen *screen, uint32_t entry, uint8_t outcome)
     if (is_test)
         print_outcome(screen, entry, outcome);
     print_parts(screen);
+    if (screen->run.chapter != chapter)
+        printf("    chapter %u is over\n", chapter);
+}
+
+/*
+ * Reads the recipe files from the argument of this number on, of which there is one at least, up to the first
+ * outcome, and gives the number of the argument behind them.
+ */
+static int read_chapters(int argc, char **argv, int first, struct screen *screen)
+{
+    int n, end = first + 1;
+
+    while (end < argc && !is_outcome(argv[end]))
+        end++;
+    if (end - first > CELLPLAN_MOST_CHAPTERS)
+        show_usage(USAGE);
+    screen->recipes_length = (size_t)(end - first) * CELLPLAN_RECIPE_BYTES;
+    for (n = first; n < end; n++)
+        read_chapter(argv[n], n - first, end - first, screen->recipes);
+    return end;
 }
 
 int main(int argc, char **argv)
 {
-    struct screen screen;
+    static struct screen screen;
     uint32_t entry;
-    int n = read_files(argc, argv, "line_screen [-l LIMITS] CELL RECIPE [OUTCOME ..]",
-                       screen.cell, screen.recipe);
+    int n = read_cell(argc, argv, USAGE, screen.cell);
 
+    n = read_chapters(argc, argv, n, &screen);
     plan(&screen);
     cellplan_fresh((uint8_t *)&screen.run, sizeof screen.run);
     entry = show_move(&screen);

@@ -51,3 +51,19 @@ put-next P old vs before after n k is put here next room =
     ∙ ap (λ (i : ℕ). sets (P ++ drop i old) i vs) (sym here)
     ∙ put-after P old vs (omega arith)
     ∙ ap (λ (i : ℕ). (P ++ vs) ++ drop i old) (ap (λ (i : ℕ). i + length vs) here ∙ next)
+
+-- three pieces put at the start
+pub put-three :
+    (old first second third x y z : List ℕ) (m n k : ℕ)
+    → first ≡ sets old 0 x
+    → second ≡ sets first m y
+    → third ≡ sets second n z
+    → length x ≡ m
+    → m + length y ≡ n
+    → n + length z ≡ k
+    → k ≤ length old
+    → third ≡ ((x ++ y) ++ z) ++ drop k old
+put-three old first second third x y z m n k e f g lx ly lz room =
+    put-next (x ++ y) old z second third n k
+    (put-next x old y first second m n (put-next [] old x old first 0 m refl e refl (omega arith) (omega arith)) f lx ly (omega arith))
+    g (length-append x y ∙ ap (λ (i : ℕ). i + length y) lx ∙ ly) lz room

@@ -17,13 +17,15 @@ use Rattle.cell.specs.declared.Cell.{Cell}
 use Rattle.cell.specs.declared.CellReading.{CellReading}
 use Rattle.limits.specs.Reader.{readLimits}
 use Rattle.recipe.specs.declared.Recipe.{Recipe}
+use Rattle.chapters.specs.Joined.{Chapters}
 use Rattle.run.specs.declared.Report.{Report}
 use Rattle.planner.specs.Call.{PlanCall}
 use Rattle.install.specs.declared.Listing.{Listing}
 use Rattle.install.specs.Call.{InstallCall}
-use Rattle.capi.specs.Encoding.{codeOf, cellBytes, cellFrom, runBytes}
+use Rattle.records.specs.Encoding.{cellBytes, cellFrom}
+use Rattle.records.proofs.RecordsRoundTrip.{limitedTo, cell-lines-back}
+use Rattle.capi.specs.Encoding.{codeOf, runBytes}
 use Rattle.capi.specs.Answer.{BufferAnswered, LimitsAnswered, Reported, PlanAnswered, InstallAnswered}
-use Rattle.capi.proofs.BytesRoundTrip.{limitedTo, cell-lines-back}
 use Rattle.capi.proofs.LimitsInBytes.{only-limits}
 
 module _ (verdict : Verdict) (bytes : List ℕ) (size : ℕ) (entry : List ℕ) where
@@ -39,12 +41,12 @@ module _ (report answer : Report) (entry : List ℕ) (refusal : ℕ) (same : ans
   told : refusal ≡ refusalIn (report .verdict)
   told = number ∙ ap (λ (r : Report). refusalIn (r .verdict)) same
 
-  pub report-short : length entry < 15 → Reported report entry entry refusal
-  report-short short = record { answer-is = told; run-is = rw (lt-ltb (length entry) 15 short) }
+  pub report-short : length entry < 16 → Reported report entry entry refusal
+  report-short short = record { answer-is = told; run-is = rw (lt-ltb (length entry) 16 short) }
 
-  pub report-put : (exit : List ℕ) → 15 ≤ length entry → exit ≡ runBytes (answer .run) ++ drop 15 entry → Reported report entry exit refusal
+  pub report-put : (exit : List ℕ) → 16 ≤ length entry → exit ≡ runBytes (answer .run) ++ drop 16 entry → Reported report entry exit refusal
   report-put exit room put =
-      record { answer-is = told; run-is = rw (le-ltb (length entry) 15 room) (put ∙ ap (λ (r : Report). runBytes (r .run) ++ drop 15 entry) same) }
+      record { answer-is = told; run-is = rw (le-ltb (length entry) 16 room) (put ∙ ap (λ (r : Report). runBytes (r .run) ++ drop 16 entry) same) }
 
 -- the two ends of a call that reads limits: the lent record is too short and stays, or its limits are those of the answer's
 module _
@@ -76,21 +78,18 @@ module _
               ∙ ap (λ (c : Cell). cellBytes c ++ drop 327 entry) whole);
         }
 
--- the plan call on the records that the bytes hold
+-- the plan call on the cell that the bytes hold
 pub plan-answered :
-    {c c′ : Cell} {r r′ : Recipe} {table scratch table′ scratch′ : List ℕ} {verdict : Verdict} {answer : ℕ}
+    {c c′ : Cell} {rs : Chapters} {table scratch table′ scratch′ : List ℕ} {verdict : Verdict} {answer : ℕ}
     → c ≡ c′
-    → r ≡ r′
     → answer ≡ refusalIn verdict
-    → PlanCall c r table scratch table′ scratch′ verdict
-    → PlanAnswered c′ r′ table scratch table′ scratch′ answer
-plan-answered {c′ = c′} {r = r} {table = table} {scratch = scratch} {table′ = table′} {scratch′ = scratch′} {verdict = verdict} cell-is recipe-is number call =
+    → PlanCall c rs table scratch table′ scratch′ verdict
+    → PlanAnswered c′ rs table scratch table′ scratch′ answer
+plan-answered {rs = rs} {table} {scratch} {table′} {scratch′} {verdict} cell-is number call =
     record {
       verdict = verdict;
       answer-is = number;
-      call =
-          subst (λ (y : Recipe). PlanCall c′ y table scratch table′ scratch′ verdict) recipe-is
-          (subst (λ (x : Cell). PlanCall x r table scratch table′ scratch′ verdict) cell-is call);
+      call = subst (λ (x : Cell). PlanCall x rs table scratch table′ scratch′ verdict) cell-is call;
     }
 
 -- the install call on the records that the bytes hold

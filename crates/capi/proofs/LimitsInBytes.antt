@@ -17,9 +17,10 @@ use Rattle.refusals.proofs.TabulatedLists.{length-tabulate}
 use Rattle.cell.specs.declared.Cell.{Cell}
 use Rattle.cell.specs.Rules.{cellRules, checkCell}
 use Rattle.limits.specs.Reader.{atNoLine, judgeLimits, limited, readLimits}
-use Rattle.capi.specs.Encoding.{codeOf, cellBytes, cellFrom}
+use Rattle.records.specs.Encoding.{cellBytes, cellFrom}
+use Rattle.records.proofs.RecordsRoundTrip.{WholeCell, cell-back, bytes-whole-cell, limitedTo, cell-lines-back, cell-bytes-back}
+use Rattle.capi.specs.Encoding.{codeOf}
 use Rattle.capi.specs.Answer.{LimitsAnswered}
-use Rattle.capi.proofs.BytesRoundTrip.{WholeCell, cell-back, bytes-whole-cell, limitedTo, cell-lines-back, cell-bytes-back}
 
 -- "returns it unchanged when it refuses"
 own-cell : (verdict : Verdict) (c other : Cell) → (codeOf verdict ≡ 0 → ⊥) → ifAccepted verdict other c ≡ c

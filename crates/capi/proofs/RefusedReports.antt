@@ -10,7 +10,7 @@ use Rattle.refusals.specs.declared.Verdict.{Verdict}
 use Rattle.refusals.specs.declared.Verdict.the-variants.{Accepted, Refused}
 use Rattle.refusals.specs.Verdict.{ifAccepted, refusalIn}
 use Rattle.cell.specs.declared.Cell.{Cell}
-use Rattle.recipe.specs.declared.Recipe.{Recipe}
+use Rattle.chapters.specs.Joined.{Chapters}
 use Rattle.run.specs.declared.Run.{Run}
 use Rattle.run.specs.Calls.{reportOf}
 use Rattle.capi.specs.Encoding.{runBytes, runFrom}
@@ -25,20 +25,20 @@ own-run (Refused refusal line) run next refused = refl
 
 -- a number other than 0 is answered: the bytes stay, those of a run and those behind it, and bytes too few for a run too
 pub refused-stays :
-    (c : Cell) (r : Recipe) (table entry exit : List ℕ) (outcome answer : ℕ)
-    → Reported (reportOf c r table (runFrom entry) outcome) entry exit answer
+    (c : Cell) (rs : Chapters) (table entry exit : List ℕ) (outcome answer : ℕ)
+    → Reported (reportOf c rs table (runFrom entry) outcome) entry exit answer
     → (answer ≡ 0 → ⊥)
     → exit ≡ entry
 unfolding reportOf
-refused-stays c r table entry exit outcome answer told refused = told .run-is ∙ decide (ltb (length entry) 15) refl
+refused-stays c rs table entry exit outcome answer told refused = told .run-is ∙ decide (ltb (length entry) 16) refl
   where
-    same : reportOf c r table (runFrom entry) outcome .run ≡ runFrom entry
+    same : reportOf c rs table (runFrom entry) outcome .run ≡ runFrom entry
     same = own-run _ (runFrom entry) _ (λ none. refused (told .answer-is ∙ none))
 
-    decide : (short : Bool) → ltb (length entry) 15 ≡ short
-        → cond short entry (runBytes (reportOf c r table (runFrom entry) outcome .run) ++ drop 15 entry) ≡ entry
+    decide : (short : Bool) → ltb (length entry) 16 ≡ short
+        → cond short entry (runBytes (reportOf c rs table (runFrom entry) outcome .run) ++ drop 16 entry) ≡ entry
     decide true e = refl
     decide false e =
-        ap (λ (run : Run). runBytes run ++ drop 15 entry) same
-        ∙ ap (λ (l : List ℕ). l ++ drop 15 entry) (run-bytes-back entry (ltb-false (length entry) 15 e))
-        ∙ take-append-drop 15 entry
+        ap (λ (run : Run). runBytes run ++ drop 16 entry) same
+        ∙ ap (λ (l : List ℕ). l ++ drop 16 entry) (run-bytes-back entry (ltb-false (length entry) 16 e))
+        ∙ take-append-drop 16 entry

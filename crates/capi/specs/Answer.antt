@@ -12,6 +12,7 @@ use Rattle.refusals.specs.Verdict.{refusalIn}
 use Rattle.cell.specs.declared.Cell.{Cell}
 use Rattle.cell.specs.declared.CellReading.{CellReading}
 use Rattle.recipe.specs.declared.Recipe.{Recipe}
+use Rattle.chapters.specs.Joined.{Chapters}
 use Rattle.run.specs.declared.Move.{Move}
 use Rattle.run.specs.declared.Place.{Place}
 use Rattle.run.specs.declared.Report.{Report}
@@ -20,7 +21,8 @@ use Rattle.run.specs.Calls.{Stored}
 use Rattle.planner.specs.Call.{PlanCall}
 use Rattle.install.specs.declared.Listing.{Listing}
 use Rattle.install.specs.Call.{InstallCall}
-use Rattle.capi.specs.Encoding.{codeOf, cellBytes, runBytes}
+use Rattle.records.specs.Encoding.{cellBytes}
+use Rattle.capi.specs.Encoding.{codeOf, runBytes}
 
 -- a buffer lent for the answer that is too short gets 14 with line 0, whatever else was handed in, and stays as it was;
 -- otherwise the answer is the verdict's, the buffer begins with the record's bytes, refused or not, and its rest stays
@@ -47,19 +49,19 @@ placeCode place = refusalIn (place .verdict) * 256 + place .place
 -- bytes too few for a run stay as they were
 pub record Reported (report : Report) (entry exit : List ℕ) (answer : ℕ) : Type 0 where
   pub answer-is : answer ≡ refusalIn (report .verdict)
-  pub run-is : exit ≡ cond (ltb (length entry) 15) entry (runBytes (report .run) ++ drop 15 entry)
+  pub run-is : exit ≡ cond (ltb (length entry) 16) entry (runBytes (report .run) ++ drop 16 entry)
 
 -- the refusal or 0: the number of the verdict with which the report leaves the record `after`
-pub record Recorded (c : Cell) (r : Recipe) (table : List ℕ) (before : Run) (outcome : ℕ) (after : Run) (answer : ℕ) : Type 0 where
+pub record Recorded (c : Cell) (rs : Chapters) (table : List ℕ) (before : Run) (outcome : ℕ) (after : Run) (answer : ℕ) : Type 0 where
   pub verdict : Verdict
   pub answer-is : answer ≡ refusalIn verdict
-  pub stored : Stored c r table before outcome verdict after
+  pub stored : Stored c rs table before outcome verdict after
 
 -- the refusal or 0: the number of the verdict with which the plan call leaves the table and the scratch so
-pub record PlanAnswered (c : Cell) (r : Recipe) (table scratch table′ scratch′ : List ℕ) (answer : ℕ) : Type 0 where
+pub record PlanAnswered (c : Cell) (rs : Chapters) (table scratch table′ scratch′ : List ℕ) (answer : ℕ) : Type 0 where
   pub verdict : Verdict
   pub answer-is : answer ≡ refusalIn verdict
-  pub call : PlanCall c r table scratch table′ scratch′ verdict
+  pub call : PlanCall c rs table scratch table′ scratch′ verdict
 
 -- an install call's result: refusal × 2^32 + count, those of the listing with which the call leaves table, scratch and list so
 pub record InstallAnswered (c : Cell) (r : Recipe) (table scratch list table′ scratch′ list′ : List ℕ) (answer : ℕ) : Type 0 where

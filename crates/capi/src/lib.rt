@@ -10,10 +10,12 @@ ghost use Rattle.limits.specs.Reader.{readLimits};
 ghost use Rattle.recipe.specs.Reader.{readRecipe};
 ghost use Rattle.refusals.specs.declared.Verdict.the-variants.{Accepted};
 ghost use Rattle.refusals.specs.Verdict.{refusalIn};
-ghost use Rattle.positions.specs.Rules.{checkSizes};
+ghost use Rattle.chapters.specs.Records.{chaptersFrom};
+ghost use Rattle.chapters.specs.Rules.{checkSizes};
 ghost use Rattle.marks.specs.Bytes.{nextSet};
 ghost use Rattle.run.specs.Calls.{freshRun, nextMove, reportOf, partPlace};
-ghost use Rattle.capi.specs.Encoding.{codeOf, cellBytes, recipeBytes, cellFrom, recipeFrom, runBytes, runFrom};
+ghost use Rattle.records.specs.Encoding.{cellBytes, recipeBytes, cellFrom, recipeFrom};
+ghost use Rattle.capi.specs.Encoding.{codeOf, runBytes, runFrom};
 ghost use Rattle.capi.specs.Answer.{BufferAnswered, LimitsAnswered, moveCode, placeCode, Reported, Recorded, PlanAnswered, InstallAnswered};
 use refusals::Refusal;
 use refusals::Verdict;
@@ -42,7 +44,7 @@ pub extern "C" fn cellplan_read_cell(file: &[u8], buffer: &mut [u8]) -> u64
     }
     let reading = cell::read_cell(file);
     let cell = reading.cell;
-    put::put_cell(cell, buffer);
+    records::put_cell(cell, buffer);
     let verdict = reading.verdict;
     code(verdict)
 }
@@ -57,7 +59,7 @@ pub extern "C" fn cellplan_read_recipe(file: &[u8], buffer: &mut [u8]) -> u64
     }
     let reading = recipe::read_recipe(file);
     let recipe = reading.recipe;
-    put::put_recipe(recipe, buffer);
+    records::put_recipe(recipe, buffer);
     let verdict = reading.verdict;
     code(verdict)
 }
@@ -67,7 +69,7 @@ pub extern "C" fn cellplan_read_recipe(file: &[u8], buffer: &mut [u8]) -> u64
 pub extern "C" fn cellplan_read_limits(file: &[u8], cell: &mut [u8]) -> u64
     ensures { λ r. ⌜ LimitsAnswered (readLimits (now (file .entry)) (cellFrom (now (cell .entry)))) (now (cell .entry)) (now (cell .exit)) r ⌝ }
 {
-    let reading = limits::read_limits(file, get::get_cell(cell));
+    let reading = limits::read_limits(file, records::get_cell(cell));
     let verdict = reading.verdict;
     let answer = code(verdict);
     if cell.len() < 327 {
@@ -115,12 +117,12 @@ fn refusal_number(verdict: Verdict) -> u8
     }
 }
 
-// Tries rules 3 to 13 on a cell and a recipe.
+// Tries rules 24 and 3 to 13 on a cell and chapters.
 #[no_mangle]
-pub extern "C" fn cellplan_check(cell: &[u8], recipe: &[u8]) -> u32
-    ensures { λ r. ⌜ r ≡ refusalIn (checkSizes (cellFrom (now (cell .entry))) (recipeFrom (now (recipe .entry)))) ⌝ }
+pub extern "C" fn cellplan_check(cell: &[u8], recipes: &[u8]) -> u32
+    ensures { λ r. ⌜ r ≡ refusalIn (checkSizes (cellFrom (now (cell .entry))) (chaptersFrom (now (recipes .entry)))) ⌝ }
 {
-    let verdict = positions::check(get::get_cell(cell), get::get_recipe(recipe));
+    let verdict = chapters::check(records::get_cell(cell), recipes);
     refusal_number(verdict) as u32
 }
 
@@ -128,13 +130,13 @@ pub extern "C" fn cellplan_check(cell: &[u8], recipe: &[u8]) -> u32
 #[no_mangle]
 pub extern "C" fn cellplan_plan(
     cell: &[u8],
-    recipe: &[u8],
+    recipes: &[u8],
     table: &mut [u32],
     scratch: &mut [u8],
 ) -> u32
-    ensures { λ r. ⌜ PlanAnswered (cellFrom (now (cell .entry))) (recipeFrom (now (recipe .entry))) (now (table .entry)) (now (scratch .entry)) (now (table .exit)) (now (scratch .exit)) r ⌝ }
+    ensures { λ r. ⌜ PlanAnswered (cellFrom (now (cell .entry))) (chaptersFrom (now (recipes .entry))) (now (table .entry)) (now (scratch .entry)) (now (table .exit)) (now (scratch .exit)) r ⌝ }
 {
-    let verdict = planner::plan(get::get_cell(cell), get::get_recipe(recipe), table, scratch);
+    let verdict = planner::plan(records::get_cell(cell), recipes, table, scratch);
     refusal_number(verdict) as u32
 }
 
@@ -150,8 +152,8 @@ pub extern "C" fn cellplan_install(
     ensures { λ r. ⌜ InstallAnswered (cellFrom (now (cell .entry))) (recipeFrom (now (recipe .entry))) (now (table .entry)) (now (scratch .entry)) (now (list .entry)) (now (table .exit)) (now (scratch .exit)) (now (list .exit)) r ⌝ }
 {
     let listing = install::install(
-        get::get_cell(cell),
-        get::get_recipe(recipe),
+        records::get_cell(cell),
+        records::get_recipe(recipe),
         table,
         scratch,
         list,
@@ -163,9 +165,9 @@ pub extern "C" fn cellplan_install(
 // Writes a fresh run.
 #[no_mangle]
 pub extern "C" fn cellplan_fresh(buffer: &mut [u8]) -> u32
-    ensures { λ r. ⌜ BufferAnswered Accepted (runBytes freshRun) 15 (now (buffer .entry)) (now (buffer .exit)) r ⌝ }
+    ensures { λ r. ⌜ BufferAnswered Accepted (runBytes freshRun) 16 (now (buffer .entry)) (now (buffer .exit)) r ⌝ }
 {
-    if buffer.len() < 15 {
+    if buffer.len() < 16 {
         return refusals::number(Refusal::TooShort) as u32;
     }
     put::put_run(Run::fresh(), buffer);
@@ -174,11 +176,16 @@ pub extern "C" fn cellplan_fresh(buffer: &mut [u8]) -> u32
 
 // The move at a run's position.
 #[no_mangle]
-pub extern "C" fn cellplan_next_move(cell: &[u8], recipe: &[u8], table: &[u32], bytes: &[u8]) -> u64
-    ensures { λ r. ⌜ r ≡ moveCode (nextMove (cellFrom (now (cell .entry))) (recipeFrom (now (recipe .entry))) (now (table .entry)) (runFrom (now (bytes .entry)))) ⌝ }
+pub extern "C" fn cellplan_next_move(
+    cell: &[u8],
+    recipes: &[u8],
+    table: &[u32],
+    bytes: &[u8],
+) -> u64
+    ensures { λ r. ⌜ r ≡ moveCode (nextMove (cellFrom (now (cell .entry))) (chaptersFrom (now (recipes .entry))) (now (table .entry)) (runFrom (now (bytes .entry)))) ⌝ }
 {
     let run = get::get_run(bytes);
-    let answer = run.next_move(get::get_cell(cell), get::get_recipe(recipe), table);
+    let answer = run.next_move(records::get_cell(cell), recipes, table);
     let verdict = answer.verdict;
     refusal_number(verdict) as u64 * 4294967296 + answer.entry as u64
 }
@@ -187,18 +194,18 @@ pub extern "C" fn cellplan_next_move(cell: &[u8], recipe: &[u8], table: &[u32], 
 #[no_mangle]
 pub extern "C" fn cellplan_report(
     cell: &[u8],
-    recipe: &[u8],
+    recipes: &[u8],
     table: &[u32],
     buffer: &mut [u8],
     outcome: u8,
 ) -> u32
-    ensures { λ r. ⌜ Reported (reportOf (cellFrom (now (cell .entry))) (recipeFrom (now (recipe .entry))) (now (table .entry)) (runFrom (now (buffer .entry))) outcome) (now (buffer .entry)) (now (buffer .exit)) r ⌝ }
+    ensures { λ r. ⌜ Reported (reportOf (cellFrom (now (cell .entry))) (chaptersFrom (now (recipes .entry))) (now (table .entry)) (runFrom (now (buffer .entry))) outcome) (now (buffer .entry)) (now (buffer .exit)) r ⌝ }
 {
     let run = get::get_run(buffer);
-    let answer = run.report(get::get_cell(cell), get::get_recipe(recipe), table, outcome);
+    let answer = run.report(records::get_cell(cell), recipes, table, outcome);
     let verdict = answer.verdict;
     let refusal = refusal_number(verdict) as u32;
-    if buffer.len() < 15 {
+    if buffer.len() < 16 {
         return refusal;
     }
     let next = answer.run;
@@ -210,30 +217,24 @@ pub extern "C" fn cellplan_report(
 #[no_mangle]
 pub extern "C" fn cellplan_report_record(
     cell: &[u8],
-    recipe: &[u8],
+    recipes: &[u8],
     table: &[u32],
     run: &mut Run,
     outcome: u8,
 ) -> u32
-    ensures { λ r. ⌜ Recorded (cellFrom (now (cell .entry))) (recipeFrom (now (recipe .entry))) (now (table .entry)) (now (run .entry)) outcome (now (run .exit)) r ⌝ }
+    ensures { λ r. ⌜ Recorded (cellFrom (now (cell .entry))) (chaptersFrom (now (recipes .entry))) (now (table .entry)) (now (run .entry)) outcome (now (run .exit)) r ⌝ }
 {
-    let verdict = run::report_record(
-        run,
-        get::get_cell(cell),
-        get::get_recipe(recipe),
-        table,
-        outcome,
-    );
+    let verdict = run::report_record(run, records::get_cell(cell), recipes, table, outcome);
     refusal_number(verdict) as u32
 }
 
 // The place of a part.
 #[no_mangle]
-pub extern "C" fn cellplan_place(cell: &[u8], recipe: &[u8], bytes: &[u8], part: u8) -> u32
-    ensures { λ r. ⌜ r ≡ placeCode (partPlace (cellFrom (now (cell .entry))) (recipeFrom (now (recipe .entry))) (runFrom (now (bytes .entry))) part) ⌝ }
+pub extern "C" fn cellplan_place(cell: &[u8], recipes: &[u8], bytes: &[u8], part: u8) -> u32
+    ensures { λ r. ⌜ r ≡ placeCode (partPlace (cellFrom (now (cell .entry))) (chaptersFrom (now (recipes .entry))) (runFrom (now (bytes .entry))) part) ⌝ }
 {
     let run = get::get_run(bytes);
-    let answer = run.place(get::get_cell(cell), get::get_recipe(recipe), part);
+    let answer = run.place(records::get_cell(cell), recipes, part);
     let verdict = answer.verdict;
     refusal_number(verdict) as u32 * 256 + answer.place as u32
 }

@@ -22,7 +22,11 @@ use Rattle.positions.proofs.LongerSizes.{longer-sizes, longer-checked}
 use Rattle.steps.specs.Lines.{actOf}
 use Rattle.steps.proofs.AddedOperations.{AddedOperations}
 use Rattle.simulation.specs.Simulation.{Greatest}
+use Rattle.chapters.specs.Joined.{firstPoint}
+use Rattle.chapters.proofs.OneChapter.{one-checked}
 use Rattle.simulation.proofs.AddedOperations.{added-greatest}
+use Rattle.simulation.proofs.OneRecipe.{alone}
+use Rattle.planner.proofs.OnePlan.{held-realisable, realisable-held}
 use Rattle.install.specs.Candidates.{isCandidate, Mends}
 use Rattle.install.specs.Order.{isAmong}
 use Rattle.install.proofs.Members.{Stands, among-stands}
@@ -100,7 +104,7 @@ module _ (c : Cell) (r : Recipe) (z : Sizes) (C : Columns c) (K : Checked c r z)
   pub group-mends-none :
       (lines : List OperationLine)
       → c .count + length lines ≤ 64
-      → (Greatest (withLines c lines) r z 0 start → ⊥)
+      → (Greatest (withLines c lines) (r ∷ []) (alone z) firstPoint start → ⊥)
       → (l : OperationLine)
       → isAmong l lines ≡ true
       → isCandidate c r l ≡ true
@@ -110,12 +114,11 @@ module _ (c : Cell) (r : Recipe) (z : Sizes) (C : Columns c) (K : Checked c r z)
       let S : Stands l lines = among-stands l lines there in
       let whole : c .count + length (S .before ++ (l ∷ S .after)) ≤ 64 = subst (λ (xs : List OperationLine). c .count + length xs ≤ 64) (S .split) few in
       let one : c .count < 64 = omega (arith, whole, length-append (S .before) (l ∷ S .after)) in
-      let alone : Greatest (withLine c l) r z 0 start =
-      subst (λ (y : Sizes). Greatest (withLine c l) r y 0 start) (alone-sizes l one is) mends in
+      let single : Greatest (withLine c l) (r ∷ []) (alone z) firstPoint start = realisable-held (withLine c l) r z (sym (alone-sizes l one is)) mends in
       none
-      (subst (λ (xs : List OperationLine). Greatest (withLines c xs) r z 0 start) (sym (S .split))
-      (added-greatest (withLine c l) (withLines c (S .before ++ (l ∷ S .after))) (one-of-group c C (S .before) l (S .after) whole) r z
-      (longer-checked c l C one (candidate-suits c r z K l is) r z K) 0 start alone))
+      (subst (λ (xs : List OperationLine). Greatest (withLines c xs) (r ∷ []) (alone z) firstPoint start) (sym (S .split))
+      (added-greatest (withLine c l) (withLines c (S .before ++ (l ∷ S .after))) (one-of-group c C (S .before) l (S .after) whole) (r ∷ []) (alone z)
+      (one-checked r (withLine c l) z (longer-checked c l C one (candidate-suits c r z K l is) r z K)) firstPoint start single))
 
   -- and a group of one line is that line
   pub one-mends :
@@ -123,9 +126,9 @@ module _ (c : Cell) (r : Recipe) (z : Sizes) (C : Columns c) (K : Checked c r z)
       → lines ≡ l ∷ []
       → c .count < 64
       → isCandidate c r l ≡ true
-      → Greatest (withLines c lines) r z 0 start
+      → Greatest (withLines c lines) (r ∷ []) (alone z) firstPoint start
       → Mends c r l
   unfolding withLines
   one-mends lines l one few is holds =
-      subst (λ (y : Sizes). Greatest (withLine c l) r y 0 start) (sym (alone-sizes l few is))
-      (subst (λ (xs : List OperationLine). Greatest (withLines c xs) r z 0 start) one holds)
+      held-realisable (withLine c l) r z (sym (alone-sizes l few is))
+      (subst (λ (xs : List OperationLine). Greatest (withLines c xs) (r ∷ []) (alone z) firstPoint start) one holds)

@@ -1,6 +1,6 @@
 -- The answers of the install call, by the rule at which it stops. Assumes nothing.
 use mathlib.Core.Path.{_≡_, refl, sym, _∙_}
-use mathlib.Core.List.{List, []}
+use mathlib.Core.List.{List, [], _∷_}
 use Prim.Native.Nat.{ℕ, _*_, _<_, _≤_}
 use native.Mathlib.Omega.{arith}
 use lib.ListN.{length}
@@ -24,11 +24,11 @@ use Rattle.install.proofs.CandidateLines.{own-resources}
 
 -- the rules, as the call tries them: the planner's, then 21
 module _ (c : Cell) (r : Recipe) (table scratch : ℕ) where
-  pub plan-refused : {v : Verdict} {refusal : Refusal} {line : ℕ} → v ≡ checkPlan c r table scratch → v ≡ Refused refusal line → v ≡ checkInstall c r table scratch
+  pub plan-refused : {v : Verdict} {refusal : Refusal} {line : ℕ} → v ≡ checkPlan c (r ∷ []) table scratch → v ≡ Refused refusal line → v ≡ checkInstall c r table scratch
   unfolding checkInstall
   plan-refused e told = refuses _ e told
 
-  module _ (passed : checkPlan c r table scratch ≡ Accepted) where
+  module _ (passed : checkPlan c (r ∷ []) table scratch ≡ Accepted) where
     pub full-refused : c .count ≡ 64 → Refused FullCell 0 ≡ checkInstall c r table scratch
     unfolding checkInstall rule21
     full-refused full = accepts _ refl passed (decides (sym (noLine-broken FullCell _ (le-leb 64 (c .count) (omega arith)))))
@@ -61,7 +61,7 @@ module _ (c : Cell) (r : Recipe) (table scratch list : List ℕ) where
   -- the rules accept: table and scratch end with free content
   module _ {table′ scratch′ : List ℕ} (accepted : checkInstall c r (length table) (length scratch) ≡ Accepted)
       (same-table : length table′ ≡ length table) (same-scratch : length scratch′ ≡ length scratch) where
-    pub install-none : Realisable c r → InstallCall c r table scratch list table′ scratch′ list (record { verdict = Accepted; count = 0 })
+    pub install-none : Realisable c (r ∷ []) → InstallCall c r table scratch list table′ scratch′ list (record { verdict = Accepted; count = 0 })
     install-none realisable =
         record {
           lines = [];
@@ -80,7 +80,7 @@ module _ (c : Cell) (r : Recipe) (table scratch list : List ℕ) where
     pub install-listed :
         (z : Sizes)
         → Asked c r z
-        → (Realisable c r → ⊥)
+        → (Realisable c (r ∷ []) → ⊥)
         → {found : ℕ} {list′ : List ℕ}
         → found ≤ 24576
         → SoFar c r list (4096 * z .resources) found list′

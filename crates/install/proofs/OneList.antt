@@ -166,7 +166,7 @@ module _
         not-other (A .lines) (B .lines)
         (λ other.
         let none : A .lines ≡ [] → B .lines ≡ [] → ⊥ = λ e f. other (e ∙ sym f) in
-        let lacks : Realisable c r → ⊥ = λ realisable. none (A .none-needed realisable) (B .none-needed realisable) in
+        let lacks : Realisable c (r ∷ []) → ⊥ = λ realisable. none (A .none-needed realisable) (B .none-needed realisable) in
         let refused : checkInstall c r (length table) (length scratch) ≡ Accepted → ⊥ =
         λ accepted. other (listed-once c r (A .lines) (B .lines) (A .listed accepted lacks) (B .listed accepted lacks)) in
         none (A .none-refused refused) (B .none-refused refused))

@@ -14,7 +14,9 @@ use Rattle.positions.specs.Checked.{Checked}
 use Rattle.positions.specs.Position.{start}
 use Rattle.positions.proofs.LongerSizes.{lines-checked}
 use Rattle.positions.proofs.SizeBounds.{resources-six}
+use Rattle.chapters.specs.Joined.{firstPoint}
 use Rattle.simulation.specs.Simulation.{Greatest}
+use Rattle.simulation.proofs.OneRecipe as single
 use Rattle.planner.specs.Decision.{Decides}
 use Rattle.install.specs.declared.Group.{Group}
 use Rattle.install.specs.declared.Progress.{Progress}
@@ -89,8 +91,8 @@ module _ (c : Cell) (r : Recipe) (z : Sizes) (A : Asked c r z) (end : ℕ) (at :
       none-among l (subst (λ (xs : List OperationLine). isAmong l xs ≡ true) (no-lines (G .gathered .lines) (omega (arith, G .gathered .added-is))) there)
 
   module _ {answer : Bool} (D : Decides (group .cell) r z answer) where
-    held : Greatest (withLines c (G .gathered .lines)) r z 0 start → Greatest (group .cell) r z 0 start
-    held = subst (λ (d : Cell). Greatest d r z 0 start) (sym (G .gathered .cell-is))
+    held : Greatest (withLines c (G .gathered .lines)) (r ∷ []) (single.alone z) firstPoint start → Greatest (group .cell) (r ∷ []) (single.alone z) firstPoint start
+    held = subst (λ (d : Cell). Greatest d (r ∷ []) (single.alone z) firstPoint start) (sym (G .gathered .cell-is))
 
     -- a group that does not make the recipe realisable
     pub refused-mends-none : answer ≡ false → (l : OperationLine) → isAmong l (G .gathered .lines) ≡ true → Mends c r l → ⊥
@@ -115,7 +117,7 @@ module _ (c : Cell) (r : Recipe) (z : Sizes) (A : Asked c r z) (end : ℕ) (at :
       unfolding isTried
       last-mends =
           one-mends c r z (A .columns) (A .checked) (A .own) (G .gathered .lines) (lineAt (group .last)) alone (A .free) last-tried
-          (subst (λ (d : Cell). Greatest d r z 0 start) (G .gathered .cell-is) (D .yes-holds accepted))
+          (subst (λ (d : Cell). Greatest d (r ∷ []) (single.alone z) firstPoint start) (G .gathered .cell-is) (D .yes-holds accepted))
 
       no-other : (m : ℕ) → at .next ≤ m → m < group .end → (m ≡ group .last → ⊥) → isTried c r m ≡ true → ⊥
       no-other m least most other tried =

@@ -1,4 +1,4 @@
--- The install call: the rules that it tries, its list, and what it leaves of what is lent. Assumes nothing.
+-- The install call, which "still takes one recipe": the rules that it tries, its list, and what it leaves of what is lent. Assumes nothing.
 use mathlib.Core.Path.{_≡_}
 use mathlib.Core.Bool.{true}
 use mathlib.Core.List.{List, [], _∷_}
@@ -24,7 +24,7 @@ rule21 c = noLine FullCell (leb 64 (c .count))
 
 -- "a call that plans checks as the planner does", "21 .., after 14", "15 isn't given"
 unfoldable pub checkInstall : Cell → Recipe → ℕ → ℕ → Verdict
-checkInstall c r table scratch = firstRefusal (checkPlan c r table scratch ∷ rule21 c ∷ [])
+checkInstall c r table scratch = firstRefusal (checkPlan c (r ∷ []) table scratch ∷ rule21 c ∷ [])
 
 -- the lines that mend the cell: all of them, and no other, in their order
 pub record Listed (c : Cell) (r : Recipe) (lines : List OperationLine) : Type 0 where
@@ -45,8 +45,8 @@ pub record InstallCall (c : Cell) (r : Recipe) (table scratch list table′ scra
   pub few : answer .count ≤ 24576
   pub list-is : list′ ≡ filledWith lines list
   -- "An acceptable recipe gives count 0", else the list has the lines that mend the cell
-  pub none-needed : Realisable c r → lines ≡ []
-  pub listed : checkInstall c r (length table) (length scratch) ≡ Accepted → (Realisable c r → ⊥) → Listed c r lines
+  pub none-needed : Realisable c (r ∷ []) → lines ≡ []
+  pub listed : checkInstall c r (length table) (length scratch) ≡ Accepted → (Realisable c (r ∷ []) → ⊥) → Listed c r lines
   -- "numbers and counts in a refused answer are 0", and a refusal changes nothing
   pub none-refused : (checkInstall c r (length table) (length scratch) ≡ Accepted → ⊥) → lines ≡ []
   pub untouched : (checkInstall c r (length table) (length scratch) ≡ Accepted → ⊥) → (table′ ≡ table) × (scratch′ ≡ scratch)

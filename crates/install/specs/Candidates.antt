@@ -1,5 +1,6 @@
 -- "Which process to install": the operation lines that are tried, and which of them mend the cell. Assumes nothing.
 use mathlib.Core.Bool.{Bool, not, _&&_}
+use mathlib.Core.List.{[], _∷_}
 use Prim.Native.Nat.{ℕ}
 use lib.ListN.{getD}
 use lib.Dec.{eqb, ltb}
@@ -43,4 +44,4 @@ isCandidate c r l =
 
 -- "and alone makes the recipe acceptable": it is realisable by the cell with this one line added
 abbrev pub Mends : Cell → Recipe → OperationLine → Type 0
-Mends c r l = Realisable (withLine c l) r
+Mends c r l = Realisable (withLine c l) (r ∷ [])

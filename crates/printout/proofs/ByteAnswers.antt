@@ -1,7 +1,7 @@
 -- The answer to a byte, by what the byte is and what the report says. Assumes nothing.
 use mathlib.Core.Path.{_≡_, refl, sym, ap, _∙_}
 use mathlib.Core.Bool.{Bool, true, false, cond}
-use mathlib.Core.List.{List, []}
+use mathlib.Core.List.{List, [], _∷_}
 use Prim.Native.Nat.{ℕ, _-_, _<_, _≤_}
 use native.Mathlib.Omega.{arith}
 use lib.ListN.{length}
@@ -53,16 +53,16 @@ module _ (c : Cell) (r : Recipe) (table : List ℕ) (run : Run) (byte : ℕ) whe
       → Answered (told c r table run byte) text text at (record { length = at; more = false; run = run })
   byte-above text at fits high past = no-digit text at fits (above-digits byte high past)
 
-  module _ (high : 48 ≤ byte) (low : byte ≤ 57) (report : Report) (is : report ≡ reportOf c r table run (byte - 48)) where
+  module _ (high : 48 ≤ byte) (low : byte ≤ 57) (report : Report) (is : report ≡ reportOf c (r ∷ []) table run (byte - 48)) where
     -- what is told of a report with this verdict
-    by-verdict : (v : Verdict) → report .verdict ≡ v → reported c r (nextMove c r table run .entry) run v (report .run) ≡ told c r table run byte
+    by-verdict : (v : Verdict) → report .verdict ≡ v → reported c r (nextMove c (r ∷ []) table run .entry) run v (report .run) ≡ told c r table run byte
     unfolding told
     by-verdict v e =
         rw (a-digit byte high low)
-        (λ i. reported c r (nextMove c r table run .entry) run ((sym e ∙ ap (λ (x : Report). x .verdict) is) i) (is i .run))
+        (λ i. reported c r (nextMove c (r ∷ []) table run .entry) run ((sym e ∙ ap (λ (x : Report). x .verdict) is) i) (is i .run))
 
     pub report-made : {entry exit : List ℕ} {at here there end : ℕ} (move : ℕ) → report .verdict ≡ Accepted
-        → here ≡ positionIn c r run → move ≡ nextMove c r table run .entry
+        → here ≡ positionIn c r run → move ≡ nextMove c (r ∷ []) table run .entry
         → there ≡ positionIn c r (report .run)
         → Put entry exit at (moveLine here move there) end
         → Answered (told c r table run byte) entry exit at (record { length = end; more = true; run = report .run })
@@ -91,7 +91,7 @@ unfolding told
 line-few c r table run byte = go (isDigit byte)
   where
     go : (b : Bool) → length (cond b
-        (reported c r (nextMove c r table run .entry) run (reportOf c r table run (byte - 48) .verdict) (reportOf c r table run (byte - 48) .run))
+        (reported c r (nextMove c (r ∷ []) table run .entry) run (reportOf c (r ∷ []) table run (byte - 48) .verdict) (reportOf c (r ∷ []) table run (byte - 48) .run))
         (record { line = []; more = false; run = run }) .line) ≤ 64
     go true = reported-few c r _ run _ _
     go false = omega arith

@@ -24,7 +24,7 @@ unfoldable pub numbered : Verdict → ℕ → ℕ
 numbered Accepted n = n
 numbered (Refused refusal line) n = 0
 
--- the number of a run's position; 0 of what is no run
+-- the number of the position that a run's point and configuration are; 0 if they are none
 unfoldable pub positionIn : Cell → Recipe → Run → ℕ
 positionIn c r run =
     numbered (firstRefusal (checkRecords c r ∷ rule16 (sizesOf c r) (run .point) (run .configuration) ∷ []))
@@ -42,11 +42,12 @@ reported c r entry run Accepted next =
     record { line = moveLine (positionIn c r run) entry (positionIn c r next); more = true; run = next }
 reported c r entry run (Refused refusal line) next = record { line = refusalLine (numberOf refusal); more = false; run = next }
 
--- "digits from standard input, each the outcome of one report; another byte ends it"
+-- "digits from standard input, each the outcome of one report; another byte ends it"; the recipe is the one chapter
 unfoldable pub told : Cell → Recipe → List ℕ → Run → ℕ → Told
 told c r table run byte =
     cond (isDigit byte)
-    (reported c r (nextMove c r table run .entry) run (reportOf c r table run (byte - 48) .verdict) (reportOf c r table run (byte - 48) .run))
+    (reported c r (nextMove c (r ∷ []) table run .entry) run (reportOf c (r ∷ []) table run (byte - 48) .verdict)
+    (reportOf c (r ∷ []) table run (byte - 48) .run))
     (record { line = []; more = false; run = run })
 
 -- the answer to a byte: the line is put into the lent buffer behind its first `at` bytes

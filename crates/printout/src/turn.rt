@@ -2,6 +2,7 @@
 ghost use mathlib.Core.Path.{_≡_};
 ghost use Prim.Native.Nat.{_+_, _*_, _≤_};
 ghost use lib.ListN.{length};
+ghost use Rattle.records.specs.Encoding.{recipeFrom};
 ghost use Rattle.printout.specs.Turn.{positionIn, told, Answered, Answers};
 use crate::Answer;
 use crate::text;
@@ -10,7 +11,7 @@ use recipe::Recipe;
 use refusals::Verdict;
 use run::Run;
 
-// The number of a run's position; 0 of what is no run.
+// The number of the position that a run's point and configuration are; 0 if they are none.
 fn position_of(cell: Cell, recipe: Recipe, run: Run) -> usize
     ensures { λ r. ⌜ r ≡ positionIn cell recipe run ⌝ }
 {
@@ -26,18 +27,19 @@ fn position_of(cell: Cell, recipe: Recipe, run: Run) -> usize
 }
 
 // Answers a byte, with a text behind the buffer's first `at` bytes: a digit is the outcome of a
-// report, and another byte ends the walk.
+// report, and another byte ends the walk. The recipe comes as the bytes of its record.
 fn answer(
     cell: Cell,
-    recipe: Recipe,
+    recipes: &[u8],
     table: &[u32],
     run: Run,
     byte: u8,
     text: &mut [u8],
     at: usize,
 ) -> Answer
+    requires { ⌜ length (now recipes) ≡ 449 ⌝ }
     requires { ⌜ at + 64 ≤ length (now text) ⌝ }
-    ensures { λ r. ⌜ Answered (told cell recipe (now (table .entry)) run byte) (now (text .entry)) (now (text .exit)) at r ⌝ }
+    ensures { λ r. ⌜ Answered (told cell (recipeFrom (now (recipes .entry))) (now (table .entry)) run byte) (now (text .entry)) (now (text .exit)) at r ⌝ }
 {
     if byte < 48 {
         return Answer {
@@ -53,12 +55,13 @@ fn answer(
             run,
         };
     }
-    let report = run.report(cell, recipe, table, byte - 48);
+    let report = run.report(cell, recipes, table, byte - 48);
     let verdict = report.verdict;
     let next = report.run;
     match verdict {
         Verdict::Accepted => {
-            let found = run.next_move(cell, recipe, table);
+            let recipe = records::get_recipe(recipes);
+            let found = run.next_move(cell, recipes, table);
             let here = position_of(cell, recipe, run) as u64;
             let there = position_of(cell, recipe, next) as u64;
             Answer {
@@ -78,14 +81,15 @@ fn answer(
 // Answers bytes until one ends the walk, with one line behind the other.
 pub fn answers(
     cell: Cell,
-    recipe: Recipe,
+    recipes: &[u8],
     table: &[u32],
     run: Run,
     bytes: &[u8],
     text: &mut [u8],
 ) -> Answer
+    requires { ⌜ length (now recipes) ≡ 449 ⌝ }
     requires { ⌜ 64 * length (now bytes) ≤ length (now text) ⌝ }
-    ensures { λ r. ⌜ Answers cell recipe (now (table .entry)) run (now (bytes .entry)) (now (text .exit)) r ⌝ }
+    ensures { λ r. ⌜ Answers cell (recipeFrom (now (recipes .entry))) (now (table .entry)) run (now (bytes .entry)) (now (text .exit)) r ⌝ }
 {
     let mut all = Answer {
         length: 0,
@@ -94,7 +98,7 @@ pub fn answers(
     };
     let mut i = 0;
     while i < bytes.len() {
-        all = answer(cell, recipe, table, all.run, bytes[i], text, all.length);
+        all = answer(cell, recipes, table, all.run, bytes[i], text, all.length);
         if !all.more {
             return all;
         }

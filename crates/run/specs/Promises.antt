@@ -10,15 +10,14 @@ use Rattle.refusals.specs.declared.Refusal.the-variants.{NotOpen}
 use Rattle.refusals.specs.declared.Verdict.{Verdict}
 use Rattle.refusals.specs.Verdict.{refusalIn}
 use Rattle.cell.specs.declared.Cell.{Cell}
-use Rattle.recipe.specs.declared.Recipe.{Recipe}
 use Rattle.positions.specs.declared.Configuration.{Configuration}
-use Rattle.positions.specs.declared.Sizes.{Sizes}
-use Rattle.steps.specs.Lines.{kindOf}
 use Rattle.steps.specs.Limits.{noneOverfull}
 use Rattle.steps.specs.Carry.{present, free, carries}
 use Rattle.steps.specs.Entry.{entryKind, letter, stepOf}
+use Rattle.chapters.specs.Joined.{Chapters, Point, recipeAt, kindAt}
+use Rattle.chapters.specs.Sizes.{Measures}
 use Rattle.run.specs.declared.Run.{Run}
-use Rattle.run.specs.Calls.{nextMove, Stored}
+use Rattle.run.specs.Calls.{pointOf, runAt, nextMove, Stored}
 use Rattle.run.specs.Book.{Book, Call, asks, reports, Answer, moved, reported, Moment, Issue, opened, byTable, atEnd, isOpen}
 use Rattle.run.specs.Book.{isAccepted, turned, moments, answers, issued, pointAfter}
 
@@ -26,22 +25,22 @@ use Rattle.run.specs.Book.{isAccepted, turned, moments, answers, issued,
 -- answered. "Reports here have the value form. The same holds of lists whose reports all have the second form, the run being the
 -- line screen's record": of a report only what `Stored` says is known. A next-move call leaves the run. Calls by value are such
 -- a list, whatever the calls (`value-chain`, run/proofs/CallsByValue)
-pub data Chain (c : Cell) (r : Recipe) (table : List ℕ) : Run → List Call → List Answer → Type 0 where
-  no-call : {run : Run} → Chain c r table run [] []
-  ask-then : {run : Run} {calls : List Call} {later : List Answer} → Chain c r table run calls later
-      → Chain c r table run (asks ∷ calls) (moved (refusalIn (nextMove c r table run .verdict)) (nextMove c r table run .entry) ∷ later)
+pub data Chain (c : Cell) (rs : Chapters) (table : List ℕ) : Run → List Call → List Answer → Type 0 where
+  no-call : {run : Run} → Chain c rs table run [] []
+  ask-then : {run : Run} {calls : List Call} {later : List Answer} → Chain c rs table run calls later
+      → Chain c rs table run (asks ∷ calls) (moved (refusalIn (nextMove c rs table run .verdict)) (nextMove c rs table run .entry) ∷ later)
   report-then : {before after : Run} {outcome : ℕ} {verdict : Verdict} {calls : List Call} {later : List Answer}
-      → Stored c r table before outcome verdict after → Chain c r table after calls later
-      → Chain c r table before (reports outcome ∷ calls) (reported (refusalIn verdict) (after .point) (after .configuration) ∷ later)
+      → Stored c rs table before outcome verdict after → Chain c rs table after calls later
+      → Chain c rs table before (reports outcome ∷ calls) (reported (refusalIn verdict) (pointOf after) (after .configuration) ∷ later)
 
 -- two tests agree
 unfoldable pub agree : Bool → Bool → Bool
 agree a b = cond a b (not b)
 
 -- "Outcomes 0 and 1 were refused exactly at an end", of a call to the book, e being its move
-unfoldable pub rightly : Cell → Recipe → Book → ℕ → Call → Bool
-rightly c r b e asks = true
-rightly c r b e (reports outcome) = cond (ltb 1 outcome) true (agree (not (isAccepted c r b e outcome)) (atEnd r b))
+unfoldable pub rightly : Cell → Chapters → Book → ℕ → Call → Bool
+rightly c rs b e asks = true
+rightly c rs b e (reports outcome) = cond (ltb 1 outcome) true (agree (not (isAccepted c rs b e outcome)) (atEnd rs b))
 
 -- "18 is never an answer"
 unfoldable pub neverShut : Answer → Bool
@@ -50,60 +49,67 @@ neverShut (reported refusal point configuration) = not (eqb refusal (numberOf No
 
 -- issued moves with the point at which each was issued: the first at p, each later one at the point to which the last kind 3
 -- before it led
-unfoldable pub everyIssue : (ℕ → Issue → Bool) → Recipe → ℕ → List Issue → Bool
-everyIssue test r p [] = true
-everyIssue test r p (issue ∷ later) =
-    test p issue && everyIssue test r (cond (eqb (entryKind (issue .entry)) 3) (pointAfter r p (issue .outcome)) p) later
+unfoldable pub everyIssue : (Point → Issue → Bool) → Chapters → Point → List Issue → Bool
+everyIssue test rs p [] = true
+everyIssue test rs p (issue ∷ later) =
+    test p issue && everyIssue test rs (cond (eqb (entryKind (issue .entry)) 3) (pointAfter rs p (issue .outcome)) p) later
 
 -- "Each move issued was open in the states that the earlier moves left."
-unfoldable pub wasOpen : Cell → Recipe → ℕ → Issue → Bool
-wasOpen c r p issue = isOpen c r (opened p (issue .configuration)) (issue .entry)
+unfoldable pub wasOpen : Cell → Chapters → Point → Issue → Bool
+wasOpen c rs p issue = isOpen c rs (opened p (issue .configuration)) (issue .entry)
 
 -- a test of the issued moves of kind 3 alone
-unfoldable pub ofCarries : (ℕ → Issue → Bool) → ℕ → Issue → Bool
+unfoldable pub ofCarries : (Point → Issue → Bool) → Point → Issue → Bool
 ofCarries test p issue = cond (eqb (entryKind (issue .entry)) 3) (test p issue) true
 
 -- "Each operation found the parts it takes at its own station, and no part it gives was in the cell unless the same step took it."
-unfoldable pub foundParts : Cell → Recipe → ℕ → Issue → Bool
-foundParts c r p issue =
-    let a = issue .configuration in present c r p (letter (issue .entry)) a && cond (eqb (kindOf r p) 1) (free r p a) true
+unfoldable pub foundParts : Cell → Chapters → Point → Issue → Bool
+foundParts c rs p issue =
+    let r = recipeAt rs p in
+    let a = issue .configuration in
+    present c r (p .point) (letter (issue .entry)) a && cond (eqb (kindAt rs p) 1) (free r (p .point) a) true
 
 -- "Operations and outcomes followed the recipe's points from point 0 and skipped none": "the first issued kind 3 carries the
 -- point at which the book began, each later one the point to which the one before led"
-unfoldable pub carriedPoint : Cell → Recipe → ℕ → Issue → Bool
-carriedPoint c r p issue = let e = issue .entry in carries c r p (stepOf c r p e) (letter e) (issue .configuration)
+unfoldable pub carriedPoint : Cell → Chapters → Point → Issue → Bool
+carriedPoint c rs p issue =
+    let r = recipeAt rs p in
+    let e = issue .entry in
+    carries c r (p .point) (stepOf c r (p .point) e) (letter e) (issue .configuration)
 
--- "Silent moves never numbered J × W in a row": "q stays below J × W", after a call too
-unfoldable pub fewSilent : Cell → Recipe → Sizes → Moment → Bool
-fewSilent c r z m = ltb (turned c r (m .book) (m .move) (m .call) .q) (z .joint * z .ways)
+-- "Silent moves never numbered J × W in a row": "q stays below J × W", after a call too; "J × W counts silent moves across the joint
+-- too", and is the same for all chapters
+unfoldable pub fewSilent : Cell → Chapters → Measures → Moment → Bool
+fewSilent c rs zs m = ltb (turned c rs (m .book) (m .move) (m .call) .q) (zs 0 .joint * zs 0 .ways)
 
 -- "An accepted plan now also means that no station is ever overfull": of the book before a call, and after it
-unfoldable pub neverOverfull : Cell → Recipe → Moment → Bool
-neverOverfull c r m =
-    noneOverfull c (m .book .configuration) && noneOverfull c (turned c r (m .book) (m .move) (m .call) .configuration)
+unfoldable pub neverOverfull : Cell → Chapters → Moment → Bool
+neverOverfull c rs m =
+    noneOverfull c (m .book .configuration) && noneOverfull c (turned c rs (m .book) (m .move) (m .call) .configuration)
 
 -- the promises of demand 3 for a list of calls as the book meets them, from point p on, but for what a run answers
-pub record Keeps (c : Cell) (r : Recipe) (z : Sizes) (p : ℕ) (met : List Moment) : Type 0 where
-  pub refused-at-ends : every (λ m. rightly c r (m .book) (m .move) (m .call)) met ≡ true
-  pub never-shut : every neverShut (answers c r met) ≡ true
-  pub moves-open : everyIssue (wasOpen c r) r p (issued c r met) ≡ true
-  pub parts-found : everyIssue (ofCarries (foundParts c r)) r p (issued c r met) ≡ true
-  pub points-followed : everyIssue (ofCarries (carriedPoint c r)) r p (issued c r met) ≡ true
-  pub silent-few : every (fewSilent c r z) met ≡ true
-  pub none-overfull : every (neverOverfull c r) met ≡ true
+pub record Keeps (c : Cell) (rs : Chapters) (zs : Measures) (p : Point) (met : List Moment) : Type 0 where
+  pub refused-at-ends : every (λ m. rightly c rs (m .book) (m .move) (m .call)) met ≡ true
+  pub never-shut : every neverShut (answers c rs met) ≡ true
+  pub moves-open : everyIssue (wasOpen c rs) rs p (issued c rs met) ≡ true
+  pub parts-found : everyIssue (ofCarries (foundParts c rs)) rs p (issued c rs met) ≡ true
+  pub points-followed : everyIssue (ofCarries (carriedPoint c rs)) rs p (issued c rs met) ≡ true
+  pub silent-few : every (fewSilent c rs zs) met ≡ true
+  pub none-overfull : every (neverOverfull c rs) met ≡ true
 
--- "Demand 3 is a single claim about the whole list and not one for each call. All calls get the same cell, recipe and table."
-pub record Promises (c : Cell) (r : Recipe) (z : Sizes) (table : List ℕ) (p : ℕ) (a : Configuration) (calls : List Call) : Type 0 where
+-- "Demand 3 is a single claim about the whole list and not one for each call. All calls get the same cell, recipe and table.", here
+-- the same chapters
+pub record Promises (c : Cell) (rs : Chapters) (zs : Measures) (table : List ℕ) (p : Point) (a : Configuration) (calls : List Call) : Type 0 where
   -- "all answers equal those of document 01's book"
   pub same-answers :
-      (told : List Answer) → Chain c r table (record { point = p; configuration = a }) calls told
-      → told ≡ answers c r (moments c r (byTable z table) [] (opened p a) calls)
-  pub keeps : Keeps c r z p (moments c r (byTable z table) [] (opened p a) calls)
+      (told : List Answer) → Chain c rs table (runAt p a) calls told
+      → told ≡ answers c rs (moments c rs (byTable zs table) [] (opened p a) calls)
+  pub keeps : Keeps c rs zs p (moments c rs (byTable zs table) [] (opened p a) calls)
 
 -- "A rule choosing single moves names one for every list of outcomes accepted so far, the empty list too": the latest first
 abbrev pub Rule : Type 0
 Rule = List ℕ → ℕ
 
 -- "Under a rule the book has the rule's move in place of the entry, and the promises are read of that book."
-abbrev pub RuleKeeps : Cell → Recipe → Sizes → Rule → ℕ → Configuration → List Call → Type 0
-RuleKeeps c r z rule p a calls = Keeps c r z p (moments c r (λ accepted b. rule accepted) [] (opened p a) calls)
+abbrev pub RuleKeeps : Cell → Chapters → Measures → Rule → Point → Configuration → List Call → Type 0
+RuleKeeps c rs zs rule p a calls = Keeps c rs zs p (moments c rs (λ accepted b. rule accepted) [] (opened p a) calls)

@@ -1,14 +1,14 @@
-// The run: a point and a configuration that a stored table leads through a recipe.
+// The run: a point of a chapter and a configuration that a stored table leads through a recipe.
+mod entry;
+mod joint;
+mod rules;
+
 ghost use mathlib.Core.Path.{_≡_};
 ghost use Rattle.refusals.specs.declared.Verdict.the-variants.{Refused};
-ghost use Rattle.refusals.specs.Verdict.{firstRefusal};
-ghost use Rattle.positions.specs.Sizes.{Fitting};
-ghost use Rattle.run.specs.Calls.{runRules, tableRules, freshRun, nextMove, reportOf, Stored, partPlace};
-ghost use Rattle.run.specs.Inner.{findEntry};
+ghost use Rattle.chapters.specs.Records.{chaptersFrom};
+ghost use Rattle.run.specs.Calls.{freshRun, nextMove, reportOf, Stored, partPlace};
 use cell::Cell;
 use positions::Configuration;
-use positions::Sizes;
-use recipe::Recipe;
 use refusals::Refusal;
 use refusals::Verdict;
 
@@ -17,6 +17,7 @@ use refusals::Verdict;
 pub struct Run {
     pub point: u8,
     pub configuration: Configuration,
+    pub chapter: u8,
 }
 
 // What a next-move call answers: the entry, 0 if it is refused.
@@ -47,41 +48,8 @@ fn refused(run: Run, refusal: Refusal) -> Report
     }
 }
 
-// Rules 13 and 16.
-fn check_run(sizes: Sizes, run: Run) -> Verdict
-    requires { ⌜ Fitting sizes ⌝ }
-    ensures { λ r. ⌜ r ≡ firstRefusal (runRules sizes run) ⌝ }
-{
-    let checked = positions::check_size(sizes);
-    let Verdict::Accepted = checked else {
-        return checked;
-    };
-    if !positions::range::is_position(sizes, run.point, run.configuration) {
-        return Verdict::Refused(Refusal::RunRange, 0);
-    }
-    Verdict::Accepted
-}
-
-// Rules 13, 14 and 16, for a table of the length.
-fn check_table(sizes: Sizes, length: usize, run: Run) -> Verdict
-    requires { ⌜ Fitting sizes ⌝ }
-    ensures { λ r. ⌜ r ≡ firstRefusal (tableRules sizes length run) ⌝ }
-{
-    let checked = positions::check_size(sizes);
-    let Verdict::Accepted = checked else {
-        return checked;
-    };
-    if length < sizes.positions {
-        return Verdict::Refused(Refusal::TooShort, 0);
-    }
-    if !positions::range::is_position(sizes, run.point, run.configuration) {
-        return Verdict::Refused(Refusal::RunRange, 0);
-    }
-    Verdict::Accepted
-}
-
 impl Run {
-    // A run at point 0, each resource in state 0 and each part outside.
+    // A run at point 0 of the first chapter, each resource in state 0 and each part outside.
     pub fn fresh() -> Run
         ensures { λ r. ⌜ r ≡ freshRun ⌝ }
     {
@@ -91,45 +59,27 @@ impl Run {
         Run {
             point: 0,
             configuration,
-        }
-    }
-
-    // The entry at the run's position, by the rules up to 16.
-    fn find_entry(self, cell: Cell, recipe: Recipe, table: &[u32]) -> Move
-        ensures { λ r. ⌜ r ≡ findEntry cell recipe (now (table .entry)) self ⌝ }
-    {
-        let checked = positions::check_records(cell, recipe);
-        let Verdict::Accepted = checked else {
-            return Move {
-                verdict: checked,
-                entry: 0,
-            };
-        };
-        let sizes = positions::measure(cell, recipe);
-        let placed = check_table(sizes, table.len(), self);
-        let Verdict::Accepted = placed else {
-            return Move {
-                verdict: placed,
-                entry: 0,
-            };
-        };
-        let entry = table[positions::number::position(sizes, self.point, self.configuration)];
-        Move {
-            verdict: Verdict::Accepted,
-            entry,
+            chapter: 0,
         }
     }
 
     // The move at the run's position, whatever is handed in.
-    pub fn next_move(self, cell: Cell, recipe: Recipe, table: &[u32]) -> Move
-        ensures { λ r. ⌜ r ≡ nextMove cell recipe (now (table .entry)) self ⌝ }
+    pub fn next_move(self, cell: Cell, recipes: &[u8], table: &[u32]) -> Move
+        ensures { λ r. ⌜ r ≡ nextMove cell (chaptersFrom (now (recipes .entry))) (now (table .entry)) self ⌝ }
     {
-        let found = self.find_entry(cell, recipe, table);
+        let tried = chapters::check_records(cell, recipes, false, self.chapter as usize);
+        let found = entry::find(self, cell, entry::without_recipe(tried), table);
         let verdict = found.verdict;
         let Verdict::Accepted = verdict else {
             return found;
         };
-        if !moves::is_open(cell, recipe, self.point, self.configuration, found.entry) {
+        if !moves::is_open(
+            cell,
+            tried.recipe,
+            self.point,
+            self.configuration,
+            found.entry,
+        ) {
             return Move {
                 verdict: Verdict::Refused(Refusal::NotOpen, 0),
                 entry: 0,
@@ -139,10 +89,11 @@ impl Run {
     }
 
     // The next run, or this one if the report is refused, whatever is handed in.
-    pub fn report(mut self, cell: Cell, recipe: Recipe, table: &[u32], outcome: u8) -> Report
-        ensures { λ r. ⌜ r ≡ reportOf cell recipe (now (table .entry)) self outcome ⌝ }
+    pub fn report(mut self, cell: Cell, recipes: &[u8], table: &[u32], outcome: u8) -> Report
+        ensures { λ r. ⌜ r ≡ reportOf cell (chaptersFrom (now (recipes .entry))) (now (table .entry)) self outcome ⌝ }
     {
-        let found = self.find_entry(cell, recipe, table);
+        let tried = chapters::check_records(cell, recipes, false, self.chapter as usize);
+        let found = entry::find(self, cell, entry::without_recipe(tried), table);
         let verdict = found.verdict;
         let Verdict::Accepted = verdict else {
             return Report { verdict, run: self };
@@ -151,57 +102,60 @@ impl Run {
         if 1 < outcome {
             return refused(self, Refusal::OutcomeRange);
         }
-        if !moves::is_open(cell, recipe, self.point, self.configuration, entry) {
+        if !moves::is_open(cell, tried.recipe, self.point, self.configuration, entry) {
             return refused(self, Refusal::NotOpen);
         }
-        if steps::point_kind(recipe, self.point) == 0 {
+        if steps::point_kind(tried.recipe, self.point) == 0 {
             return refused(self, Refusal::AtEnd);
         }
         let configuration = moves::make(
             cell,
-            recipe,
+            tried.recipe,
             self.point,
             self.configuration,
             entry,
             outcome,
         );
-        self.point = steps::lead(recipe, self.point, entry, outcome);
+        self.point = steps::lead(tried.recipe, self.point, entry, outcome);
         self.configuration = configuration;
-        Report {
-            verdict: Verdict::Accepted,
-            run: self,
+        if chapters::number(recipes) <= self.chapter as usize + 1 {
+            return Report { verdict, run: self };
         }
+        let run = joint::land(self, tried.recipe);
+        Report { verdict, run }
     }
 
     // The place of a part, whatever is handed in; 255 for a part that isn't there.
-    pub fn place(self, cell: Cell, recipe: Recipe, part: u8) -> Place
-        ensures { λ r. ⌜ r ≡ partPlace cell recipe self part ⌝ }
+    pub fn place(self, cell: Cell, recipes: &[u8], part: u8) -> Place
+        ensures { λ r. ⌜ r ≡ partPlace cell (chaptersFrom (now (recipes .entry))) self part ⌝ }
     {
-        let checked = positions::check_records(cell, recipe);
-        let Verdict::Accepted = checked else {
+        let tried = chapters::check_records(cell, recipes, false, self.chapter as usize);
+        let verdict = tried.verdict;
+        let Verdict::Accepted = verdict else {
             return Place {
-                verdict: checked,
+                verdict,
                 place: 255,
             };
         };
-        let sizes = positions::measure(cell, recipe);
-        let placed = check_run(sizes, self);
+        let sizes = positions::measure_for(cell, tried.most, tried.parts);
+        let own = positions::with_points(sizes, tried.own);
+        let placed = rules::check_run(sizes, own, self);
         let Verdict::Accepted = placed else {
             return Place {
                 verdict: placed,
                 place: 255,
             };
         };
-        if sizes.parts <= part as usize {
+        if tried.parts <= part as usize {
             return Place {
-                verdict: Verdict::Accepted,
+                verdict: placed,
                 place: 255,
             };
         }
         let configuration = self.configuration;
         let places = configuration.place;
         Place {
-            verdict: Verdict::Accepted,
+            verdict: placed,
             place: places[part as usize],
         }
     }
@@ -211,14 +165,14 @@ impl Run {
 pub fn report_record(
     run: &mut Run,
     cell: Cell,
-    recipe: Recipe,
+    recipes: &[u8],
     table: &[u32],
     outcome: u8,
 ) -> Verdict
-    ensures { λ r. ⌜ Stored cell recipe (now (table .entry)) (now (run .entry)) outcome r (now (run .exit)) ⌝ }
+    ensures { λ r. ⌜ Stored cell (chaptersFrom (now (recipes .entry))) (now (table .entry)) (now (run .entry)) outcome r (now (run .exit)) ⌝ }
 {
     let before = *run;
-    let answer = before.report(cell, recipe, table, outcome);
+    let answer = before.report(cell, recipes, table, outcome);
     *run = answer.run;
     answer.verdict
 }

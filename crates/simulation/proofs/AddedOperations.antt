@@ -7,12 +7,15 @@ use Rattle.recipe.specs.declared.Recipe.{Recipe}
 use Rattle.positions.specs.declared.Configuration.{Configuration}
 use Rattle.positions.specs.declared.Sizes.{Sizes}
 use Rattle.positions.specs.Checked.{Checked}
-use Rattle.steps.specs.Lines.{placeOf, linesOf, kindOf, thenOf, elseOf}
+use Rattle.steps.specs.Lines.{placeOf, linesOf, kindOf}
 use Rattle.steps.specs.Limits.{noneOverfull}
 use Rattle.steps.proofs.PointLines.{point-lines}
 use Rattle.steps.proofs.StationLoads.{silent-steps}
 use Rattle.steps.proofs.AddedOperations.{AddedOperations, moved, added-room, added-after, added-silent, added-after-carry, added-carries}
-use Rattle.simulation.specs.Simulation.{Position, Silently, none, more, Set, GoesOn, Simulation, Greatest}
+use Rattle.chapters.specs.Joined.{Chapters, Point, recipeAt, kindAt, thenAt, elseAt}
+use Rattle.chapters.specs.Sizes.{Measures}
+use Rattle.chapters.specs.Checked.{AllChecked}
+use Rattle.simulation.specs.Simulation.{Position, PositionIn, Silently, none, more, Set, GoesOn, Simulation, Greatest}
 use Rattle.simulation.proofs.CellMachine.{position-point, position-places}
 use Rattle.simulation.proofs.SinglePaths.{singly-stays}
 use Rattle.simulation.proofs.JointIsSingle.{silently-singly}
@@ -30,24 +33,29 @@ module _ (c d : Cell) (added : AddedOperations c d) (r : Recipe) (z : Sizes) (K 
         more (moved (added .at) x) (silently-there path) (added-silent c d added x b (path-places path) step)
         (e ∙ sym (added-after c d added x b (path-places path) (silent-steps c b x step)))
 
+module _ (c d : Cell) (added : AddedOperations c d) (rs : Chapters) (zs : Measures) (K : AllChecked c rs zs) where
+  module _ (p : Point) (some : kindAt rs p ≡ 0 → ⊥) (a : Configuration) (at : PositionIn rs zs p a) (fit : noneOverfull c a ≡ true) where
     -- and with a carrying step to the same members
-    on-there : (S : Set) → GoesOn c r S p a → GoesOn d r S p a
+    on-there : (S : Set) → GoesOn c rs S p a → GoesOn d rs S p a
     on-there S next =
-        let most : (q : ℕ) → q < 8 → placeOf (next .before) q ≤ 6 = path-places (next .silently) in
-        let lines : 1 ≤ linesOf r p = point-lines r (K .recipe-passes) p (position-point c r z K p a here) .some in
-        let made = added-after-carry c d added r p (next .step) (next .lines) (next .before) (next .carrying) most (K .cell-passes) lines in
+        let r = recipeAt rs p in
+        let z = zs (p .chapter) in
+        let C : Checked c r z = K .each (p .chapter) (at .there) in
+        let most : (q : ℕ) → q < 8 → placeOf (next .before) q ≤ 6 = path-places c d added r z C (p .point) some a (at .here) fit (next .silently) in
+        let lines : 1 ≤ linesOf r (p .point) = point-lines r (C .recipe-passes) (p .point) (position-point c r z C (p .point) a (at .here)) .some in
+        let made = added-after-carry c d added r (p .point) (next .step) (next .lines) (next .before) (next .carrying) most (C .cell-passes) lines in
         record {
           before = next .before;
-          silently = silently-there (next .silently);
+          silently = silently-there c d added r z C (p .point) some a (at .here) fit (next .silently);
           step = moved (added .at) (next .step);
           lines = λ j. added .at (next .lines j);
-          carrying = added-carries c d added r p (next .step) (next .lines) (next .before) (next .carrying) most (K .cell-passes) lines;
-          then = ap (S (thenOf r p)) (made 1) ∙ next .then;
-          otherwise = λ test. ap (S (elseOf r p)) (made 0) ∙ next .otherwise test;
+          carrying = added-carries c d added r (p .point) (next .step) (next .lines) (next .before) (next .carrying) most (C .cell-passes) lines;
+          then = ap (S (thenAt rs p)) (made 1) ∙ next .then;
+          otherwise = λ test. ap (S (elseAt rs p)) (made 0) ∙ next .otherwise test;
         }
 
   -- a simulation of the one cell is one of the other
-  pub added-simulates : (S : Set) → Simulation c r z S → Simulation d r z S
+  pub added-simulates : (S : Set) → Simulation c rs zs S → Simulation d rs zs S
   added-simulates S simulation =
       record {
         positions = simulation .positions;
@@ -55,9 +63,10 @@ module _ (c d : Cell) (added : AddedOperations c d) (r : Recipe) (z : Sizes) (K 
         goes-on =
             λ p a member some. on-there p some a (simulation .positions p a member) (simulation .none-overfull p a member) S
             (simulation .goes-on p a member some);
+        passes-on = simulation .passes-on;
       }
 
   -- so what the one's greatest simulation holds, the other's does
-  pub added-greatest : (p : ℕ) (a : Configuration) → Greatest c r z p a → Greatest d r z p a
+  pub added-greatest : (p : Point) (a : Configuration) → Greatest c rs zs p a → Greatest d rs zs p a
   added-greatest p a held =
       record { set = held .set; simulation = added-simulates (held .set) (held .simulation); member = held .member }

@@ -34,35 +34,52 @@ use Rattle.steps.proofs.Effects.{do-same, leads-silent, do-leads, passed-leads,
 use Rattle.steps.proofs.SingleEffects.{single-silent, single-carried}
 use Rattle.steps.proofs.SingleMoves.{SilentMove, internal, transfer, silent-move, carry-makes, do-places, test-places, hands-over, hands-keeps}
 use Rattle.steps.proofs.OpenByKind.{end-opens, opens-joint}
+use Rattle.chapters.specs.Joined.{Chapters, Point, pointIn, recipeAt, kindAt, landing, thenAt, elseAt}
+use Rattle.chapters.specs.Sizes.{Measures}
+use Rattle.chapters.specs.Checked.{AllChecked}
+use Rattle.chapters.proofs.Landing.{landing-going}
+use Rattle.run.specs.Calls.{nextPoint}
 use Rattle.run.specs.Book.{Book, atEnd, isOpen, setTo, movedTo, lineFollowed, configurationAfter, pointAfter, made}
-use Rattle.simulation.specs.Simulation.{Position}
+use Rattle.simulation.specs.Simulation.{Position, PositionIn}
 use Rattle.simulation.proofs.CellMachine.{position-point, position-kind}
+use Rattle.simulation.proofs.JoinedMachine.{checked-at}
 
-pub record BookIs (c : Cell) (r : Recipe) (z : Sizes) : Type 0 where
+-- a move is open at the book's point by the recipe of its chapter
+abbrev pub opensFor : Cell → Chapters → Book → ℕ → Bool
+opensFor c rs b e = opens c (recipeAt rs (b .point)) (b .point .point) (b .configuration) e
+
+-- what it makes of the book
+abbrev pub bookAfter : Cell → Chapters → Book → ℕ → ℕ → Book
+bookAfter c rs b e outcome =
+    record {
+      point = nextPoint rs (b .point) e outcome;
+      configuration = makes c (recipeAt rs (b .point)) (b .point .point) (b .configuration) e outcome;
+      q = cond (eqb (entryKind e) 3) 0 (b .q + 1);
+    }
+
+pub record BookIs (c : Cell) (rs : Chapters) (zs : Measures) : Type 0 where
   pub open-is :
       (b : Book) (e : ℕ)
-      → isOpen c r b e ≡ opens c r (b .point) (b .configuration) e
+      → isOpen c rs b e ≡ opensFor c rs b e
   pub made-is :
       (b : Book) (e outcome : ℕ)
-      → Position z (b .point) (b .configuration)
-      → (kindOf r (b .point) ≡ 0 → ⊥)
-      → opens c r (b .point) (b .configuration) e ≡ true
+      → PositionIn rs zs (b .point) (b .configuration)
+      → (kindAt rs (b .point) ≡ 0 → ⊥)
+      → opensFor c rs b e ≡ true
       → outcome ≤ 1
-      → made c r b e outcome
-      ≡ record {
-        point = leadsTo r (b .point) e outcome;
-        configuration = makes c r (b .point) (b .configuration) e outcome;
-        q = cond (eqb (entryKind e) 3) 0 (b .q + 1);
-      }
+      → made c rs b e outcome ≡ bookAfter c rs b e outcome
 
-module _ (c : Cell) (r : Recipe) (b : Book) (e : ℕ) where
-  opens-book : isOpen c r b e ≡ opens c r (b .point) (b .configuration) e
+module _ (c : Cell) (rs : Chapters) (b : Book) (e : ℕ) where
+  opens-book : isOpen c rs b e ≡ opensFor c rs b e
   unfolding isOpen atEnd
-  opens-book = decide (eqb (kindOf r (b .point)) 0) refl
+  opens-book = decide (eqb (kindAt rs (b .point)) 0) refl
     where
-      decide : (t : Bool) → eqb (kindOf r (b .point)) 0 ≡ t → isOpen c r b e ≡ opens c r (b .point) (b .configuration) e
-      decide true is = rw is (sym (end-opens c r (b .point) (b .configuration) e (eqb-true (kindOf r (b .point)) 0 is)))
-      decide false is = rw is (sym (opens-joint c r (b .point) (b .configuration) e (eqb-false (kindOf r (b .point)) 0 is)))
+      r : Recipe
+      r = recipeAt rs (b .point)
+
+      decide : (t : Bool) → eqb (kindAt rs (b .point)) 0 ≡ t → isOpen c rs b e ≡ opensFor c rs b e
+      decide true is = rw is (sym (end-opens c r (b .point .point) (b .configuration) e (eqb-true (kindAt rs (b .point)) 0 is)))
+      decide false is = rw is (sym (opens-joint c r (b .point .point) (b .configuration) e (eqb-false (kindAt rs (b .point)) 0 is)))
 
 -- each line taken sets its resource to its `to`
 sets : (c : Cell) (ls : ℕ → ℕ) (n k s : ℕ) → setTo c ls n k s ≡ stateAfter c (only c ls n k) s
@@ -302,8 +319,12 @@ module _
         go (open-carried b d is) = told b d is (eqb outcome 1) refl ∙ sym (makes-is c r p a e (carried b d) is outcome)
         go (open-ended is) = absurd (some (read-ended c r p a e is .done))
 
-    point-made : (outcome : ℕ) → outcome ≤ 1 → (kindOf r p ≡ 0 → ⊥) → entryKind e ≡ 3 → pointAfter r p outcome ≡ leadsTo r p e outcome
-    unfolding pointAfter
+    point-made :
+        (outcome : ℕ)
+        → outcome ≤ 1
+        → (kindOf r p ≡ 0 → ⊥)
+        → entryKind e ≡ 3
+        → cond (eqb (kindOf r p) 2 && eqb outcome 0) (elseOf r p) (thenOf r p) ≡ leadsTo r p e outcome
     point-made outcome low some kind = decide (eqb (kindOf r p) 1) (eqb outcome 1) refl refl
       where
         both : (u : Bool) → cond (u && false) (elseOf r p) (thenOf r p) ≡ thenOf r p
@@ -321,44 +342,79 @@ module _
             let nil : outcome ≡ 0 = omega arith in
             rw (eq-eqb (kindOf r p) 2 two, eq-eqb outcome 0 nil) (sym (failed-leads r p e outcome kind ne not-one))
 
+-- where the book goes after a carry, and that it stays at its point after a silent move
+module _ (rs : Chapters) (p : Point) (e outcome : ℕ) where
+  goes-after :
+      cond (eqb (kindAt rs p) 2 && eqb outcome 0) (elseOf (recipeAt rs p) (p .point)) (thenOf (recipeAt rs p) (p .point))
+      ≡ leadsTo (recipeAt rs p) (p .point) e outcome
+      → pointAfter rs p outcome ≡ nextPoint rs p e outcome
+  unfolding pointAfter nextPoint thenAt elseAt
+  goes-after leads = decide (eqb (kindAt rs p) 2 && eqb outcome 0) leads
+    where
+      decide :
+          (t : Bool)
+          → cond t (elseOf (recipeAt rs p) (p .point)) (thenOf (recipeAt rs p) (p .point)) ≡ leadsTo (recipeAt rs p) (p .point) e outcome
+          → cond t (landing rs (pointIn (p .chapter) (elseOf (recipeAt rs p) (p .point))))
+          (landing rs (pointIn (p .chapter) (thenOf (recipeAt rs p) (p .point))))
+          ≡ landing rs (pointIn (p .chapter) (leadsTo (recipeAt rs p) (p .point) e outcome))
+      decide true is = ap (λ (q : ℕ). landing rs (pointIn (p .chapter) q)) is
+      decide false is = ap (λ (q : ℕ). landing rs (pointIn (p .chapter) q)) is
+
+  pub stays-silent : (kindAt rs p ≡ 0 → ⊥) → (entryKind e ≡ 3 → ⊥) → nextPoint rs p e outcome ≡ p
+  unfolding nextPoint
+  stays-silent some quiet =
+      ap (λ (q : ℕ). landing rs (pointIn (p .chapter) q)) (leads-silent (recipeAt rs p) (p .point) e outcome quiet) ∙ landing-going rs p some
+
 made-single :
-    (c : Cell) (r : Recipe) (z : Sizes)
-    → Checked c r z
+    (c : Cell) (rs : Chapters) (zs : Measures)
+    → AllChecked c rs zs
     → (b : Book) (e outcome : ℕ)
-    → Position z (b .point) (b .configuration)
-    → (kindOf r (b .point) ≡ 0 → ⊥)
-    → opens c r (b .point) (b .configuration) e ≡ true
+    → PositionIn rs zs (b .point) (b .configuration)
+    → (kindAt rs (b .point) ≡ 0 → ⊥)
+    → opensFor c rs b e ≡ true
     → outcome ≤ 1
-    → made c r b e outcome
-    ≡ record {
-      point = leadsTo r (b .point) e outcome;
-      configuration = makes c r (b .point) (b .configuration) e outcome;
-      q = cond (eqb (entryKind e) 3) 0 (b .q + 1);
-    }
+    → made c rs b e outcome ≡ bookAfter c rs b e outcome
 unfolding made
-made-single c r z K b e outcome here some able low = decide (eqb (entryKind e) 3) refl
+made-single c rs zs K b e outcome at some able low = decide (eqb (entryKind e) 3) refl
   where
-    configuration : configurationAfter c r (b .point) (b .configuration) e outcome ≡ makes c r (b .point) (b .configuration) e outcome
-    configuration = configuration-made c r z K (b .point) (b .configuration) here e outcome low some able
+    r : Recipe
+    r = recipeAt rs (b .point)
+
+    C : Checked c r (zs (b .point .chapter))
+    C = checked-at c rs zs K (b .point) (b .configuration) at
+
+    configuration :
+        configurationAfter c r (b .point .point) (b .configuration) e outcome ≡ makes c r (b .point .point) (b .configuration) e outcome
+    configuration =
+        configuration-made c r (zs (b .point .chapter)) C (b .point .point) (b .configuration) (at .here) e outcome low some able
 
     decide :
         (t : Bool)
         → eqb (entryKind e) 3 ≡ t
         → _≡_ {A = Book} (cond t
-        (record { point = pointAfter r (b .point) outcome; configuration = configurationAfter c r (b .point) (b .configuration) e outcome; q = 0 })
-        (record { point = b .point; configuration = configurationAfter c r (b .point) (b .configuration) e outcome; q = b .q + 1 }))
-        (record { point = leadsTo r (b .point) e outcome; configuration = makes c r (b .point) (b .configuration) e outcome; q = cond t 0 (b .q + 1) })
+        (record {
+          point = pointAfter rs (b .point) outcome;
+          configuration = configurationAfter c r (b .point .point) (b .configuration) e outcome;
+          q = 0;
+        })
+        (record { point = b .point; configuration = configurationAfter c r (b .point .point) (b .configuration) e outcome; q = b .q + 1 }))
+        (record {
+          point = nextPoint rs (b .point) e outcome;
+          configuration = makes c r (b .point .point) (b .configuration) e outcome;
+          q = cond t 0 (b .q + 1);
+        })
     decide true is =
-        let point : pointAfter r (b .point) outcome ≡ leadsTo r (b .point) e outcome =
-        point-made c r z K (b .point) (b .configuration) here e outcome low some (eqb-true (entryKind e) 3 is) in
+        let point : pointAfter rs (b .point) outcome ≡ nextPoint rs (b .point) e outcome =
+        goes-after rs (b .point) e outcome
+        (point-made c r (zs (b .point .chapter)) C (b .point .point) (b .configuration) (at .here) e outcome low some (eqb-true (entryKind e) 3 is)) in
         λ i. record { point = point i; configuration = configuration i; q = 0 }
     decide false is =
-        let point : b .point ≡ leadsTo r (b .point) e outcome = sym (leads-silent r (b .point) e outcome (eqb-false (entryKind e) 3 is)) in
+        let point : b .point ≡ nextPoint rs (b .point) e outcome = sym (stays-silent rs (b .point) e outcome some (eqb-false (entryKind e) 3 is)) in
         λ i. record { point = point i; configuration = configuration i; q = b .q + 1 }
 
-pub book-is : (c : Cell) (r : Recipe) (z : Sizes) → Checked c r z → BookIs c r z
-book-is c r z K =
+pub book-is : (c : Cell) (rs : Chapters) (zs : Measures) → AllChecked c rs zs → BookIs c rs zs
+book-is c rs zs K =
     record {
-      open-is = opens-book c r;
-      made-is = made-single c r z K;
+      open-is = opens-book c rs;
+      made-is = made-single c rs zs K;
     }

@@ -1,4 +1,4 @@
--- The test of a table with ranks that the checker computes: a table that passes it is closed.
+-- The test of a chapter's table with ranks that the checker computes: a table that passes it is closed.
 -- Assumes nothing.
 use mathlib.Core.Path.{_≡_, refl, sym}
 use mathlib.Core.Bool.{Bool, true, false, cond, not, _&&_, _||_, true≢false}
@@ -22,7 +22,7 @@ use Rattle.steps.specs.Effect.{Effect, shut, silent, carried, ended, effect, is
 use Rattle.steps.proofs.Effects.{is-open}
 use Rattle.simulation.specs.Simulation.{Position}
 use Rattle.simulation.proofs.NumberedPositions.{by-number}
-use Rattle.simulation.proofs.ClosedTablePromises.{ClosedTable}
+use Rattle.simulation.proofs.ClosedChapter.{ClosedChapter}
 
 unfoldable pub rankOf : Sizes → List ℕ → ℕ → Configuration → ℕ
 rankOf z ranks p a = getD ranks (positionOf z p a) 0
@@ -115,7 +115,7 @@ module _
       carry-on b d is true = entry-there z table _ b (and-left _ _ (leads (carried b d) is))
       carry-on b d is false = entry-there z table _ d (and-right (hasEntry z table (leadsTo r p entry 1) b) _ (leads (carried b d) is))
 
-    pub closed-table : ClosedTable c r z table (rankOf z ranks)
+    pub closed-table : ClosedChapter c r z table (rankOf z ranks)
     closed-table =
         record {
           none-overfull = λ p a valid some. closes p a valid some .room;

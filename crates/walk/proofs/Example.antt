@@ -33,8 +33,14 @@ use Rattle.steps.specs.Joint.{mayDo, acts, actsOn, howMany, portFits, isStep, i
 use Rattle.steps.specs.Carry.{serves, matches, standsAt, present, free, suits, carries, putThere, placed, partsMoved, afterCarry, isFree}
 use Rattle.steps.specs.Entry.{entryKind, letter, unused, linesUsed, carryLetters, lettersUsed, namesGate, isLine, isFormed, only, stepOf, mayBeTaken}
 use Rattle.steps.specs.Effect.{taken, effect, isMove, opens, leaves, makes, leadsTo}
+use Rattle.chapters.specs.Joined.{Chapters, recipeAt, chapterAt, isEarlier, landing}
+use Rattle.chapters.specs.Sizes as sizes
+use Rattle.chapters.specs.Sizes.{sizesIn, pointsAt, begins, entryIn}
+use Rattle.chapters.specs.Rules as rules
+use Rattle.chapters.proofs.OneChapter.{one-rule14}
 use Rattle.run.specs.declared.Run.{Run}
-use Rattle.run.specs.Calls.{tableRules, freshRun, entryAt, entryRules, moveRules, reportRules, rule17, rule18, rule19, nextMove, nextRun, reportOf}
+use Rattle.run.specs.Calls.{pointOf, runAt, tableRules, freshRun, entryAt, entryRules, moveRules, reportRules, rule17, rule18, rule19, nextMove, nextPoint}
+use Rattle.run.specs.Calls.{nextRun, reportOf}
 use Rattle.planner.specs.Call.{checkPlan, PlanCall}
 use Rattle.worked.specs.Bench.{digits, row, cellFile, recipeWith, recipeFile}
 use Rattle.worked.specs.Moves.{filled, benchCell, benchRecipe, benchEntry, benchTable}
@@ -46,26 +52,32 @@ use Rattle.walk.specs.Output.{namesLine, below, Output}
 -- two tables have the same entries where the second one leads
 unfoldable pub Along : Cell → Recipe → List ℕ → List ℕ → Run → List ℕ → Type 0
 Along c r planned other run [] = Unit {0}
-Along c r planned other run (byte ∷ bytes) = (entryAt c r planned run ≡ entryAt c r other run) × Along c r planned other (told c r other run byte .run) bytes
+Along c r planned other run (byte ∷ bytes) =
+    (entryAt c (r ∷ []) planned run ≡ entryAt c (r ∷ []) other run) × Along c r planned other (told c r other run byte .run) bytes
 
 -- a turn looks at one entry of the table alone, and at whether the table is long enough
-module _ (c : Cell) (r : Recipe) (planned other : List ℕ) (both : rule14 (sizesOf c r) (length planned) ≡ rule14 (sizesOf c r) (length other)) where
+module _ (c : Cell) (r : Recipe) (planned other : List ℕ)
+    (both : rules.rule14 (sizesIn c (r ∷ [])) 1 (length planned) ≡ rules.rule14 (sizesIn c (r ∷ [])) 1 (length other)) where
   toldBy : Run → ℕ → Verdict → ℕ → Told
   toldBy run byte fits entry =
-      let checked = recordRules c r ++ (rule13 (sizesOf c r) ∷ fits ∷ rule16 (sizesOf c r) (run .point) (run .configuration) ∷ []) in
-      let opened = noLine NotOpen (not (opens c r (run .point) (run .configuration) entry)) in
+      let rs = r ∷ [] in
+      let zs = sizesIn c rs in
+      let a = run .configuration in
+      let checked = rules.recordRules false c rs ++ (rules.rule13 zs 1 ∷ fits ∷ rules.rule16 zs 1 (pointOf run) a ∷ []) in
+      let opened = noLine NotOpen (not (opens c (recipeAt rs (pointOf run)) (run .point) a entry)) in
       let outcome = byte - 48 in
-      let verdict = firstRefusal (checked ++ (rule17 outcome ∷ opened ∷ rule19 r run ∷ [])) in
-      let next : Run =
-      record { point = leadsTo r (run .point) entry outcome; configuration = makes c r (run .point) (run .configuration) entry outcome } in
+      let verdict = firstRefusal (checked ++ (rule17 outcome ∷ opened ∷ rule19 rs run ∷ [])) in
+      let next = runAt (nextPoint rs (pointOf run) entry outcome) (makes c (recipeAt rs (pointOf run)) (run .point) a entry outcome) in
       let move = ifAccepted (firstRefusal (checked ++ (opened ∷ []))) entry 0 in
       cond (isDigit byte) (reported c r move run verdict (ifAccepted verdict next run)) (record { line = []; more = false; run = run })
 
-  told-by : (table : List ℕ) (run : Run) (byte : ℕ) → told c r table run byte ≡ toldBy run byte (rule14 (sizesOf c r) (length table)) (entryAt c r table run)
+  told-by : (table : List ℕ) (run : Run) (byte : ℕ)
+      → told c r table run byte ≡ toldBy run byte (rules.rule14 (sizesIn c (r ∷ [])) 1 (length table)) (entryAt c (r ∷ []) table run)
   unfolding told toldBy nextMove reportOf tableRules entryRules moveRules reportRules rule18 nextRun
   told-by table run byte = refl
 
-  told-same : (run : Run) (byte : ℕ) → entryAt c r planned run ≡ entryAt c r other run → told c r planned run byte ≡ told c r other run byte
+  told-same : (run : Run) (byte : ℕ) → entryAt c (r ∷ []) planned run ≡ entryAt c (r ∷ []) other run
+      → told c r planned run byte ≡ told c r other run byte
   told-same run byte e = told-by planned run byte ∙ (λ i. toldBy run byte (both i) (e i)) ∙ sym (told-by other run byte)
 
   pub printed-same : (run : Run) (bytes : List ℕ) → Along c r planned other run bytes → printed c r planned run bytes ≡ printed c r other run bytes
@@ -117,7 +129,9 @@ unfolding isOf firstBelow anyBelow allBelow countBelow greatestBelow tabulate fi
     reported told printed Along mayDo acts actsOn howMany portFits isStep isSilentStep load keepsLimits noneOverfull gateAmong gateOf gated suits stateAfter
     receiver handed placeAfter after serves matches standsAt present free carries putThere placed partsMoved afterCarry entryKind letter
     unused linesUsed carryLetters lettersUsed namesGate isLine isFormed only stepOf mayBeTaken taken effect isMove opens leaves makes leadsTo cell.inRange cell.gap
-    cell.hasNoLine recipe.inRange recipe.hasUnused farthest stateWeight stateFits placeFits isSilent isFree lineVerdict
+    cell.hasNoLine recipe.inRange recipe.hasUnused farthest stateWeight stateFits placeFits isSilent isFree lineVerdict chapterAt isEarlier landing sizesIn pointsAt sizes.partsIn begins
+    sizes.positionIn entryIn rules.rule24 rules.rule24Joint rules.chapterRules rules.inTurn rules.chaptersRules rules.recordRules rules.rule13
+    rules.rule14 rules.isPositionIn rules.rule16 nextPoint
 computed =
     record {
       lines =
@@ -133,23 +147,25 @@ computed =
     }
 
 -- every plan call leaves a table of the length that was lent
-call-length : {c : Cell} {r : Recipe} {lent scratch planned scratch′ : List ℕ} {verdict : Verdict}
-    → PlanCall c r lent scratch planned scratch′ verdict → length planned ≡ length lent
-call-length {c} {r} {lent} {scratch} {planned} call = go (checkPlan c r (length lent) (length scratch)) refl
+call-length : {c : Cell} {rs : Chapters} {lent scratch planned scratch′ : List ℕ} {verdict : Verdict}
+    → PlanCall c rs lent scratch planned scratch′ verdict → length planned ≡ length lent
+call-length {c} {rs} {lent} {scratch} {planned} call = go (checkPlan c rs (length lent) (length scratch)) refl
   where
-    go : (v : Verdict) → checkPlan c r (length lent) (length scratch) ≡ v → length planned ≡ length lent
+    go : (v : Verdict) → checkPlan c rs (length lent) (length scratch) ≡ v → length planned ≡ length lent
     go Accepted is = call .planned is .same-length
     go (Refused refusal line) is =
         ap (λ (l : List ℕ). length l) (call .untouched (refused-not is) .0)
 
-long-enough : (n : ℕ) → 90 ≤ n → rule14 (sizesOf benchCell benchRecipe) n ≡ Accepted
+long-enough : (n : ℕ) → 90 ≤ n → rules.rule14 (sizesIn benchCell (benchRecipe ∷ [])) 1 n ≡ Accepted
 unfolding rule14 noLine
-long-enough n long = rw (le-ltb n (sizesOf benchCell benchRecipe .positions) (omega (arith, computed .positions)))
+long-enough n long =
+    one-rule14 benchRecipe benchCell n
+    ∙ rw (le-ltb n (sizesOf benchCell benchRecipe .positions) (omega (arith, computed .positions)))
 
 -- ‡ "these four moves", of every plan call that keeps its contract
 module _
     (lent scratch planned scratch′ : List ℕ) (verdict : Verdict)
-    (call : PlanCall benchCell benchRecipe lent scratch planned scratch′ verdict)
+    (call : PlanCall benchCell (benchRecipe ∷ []) lent scratch planned scratch′ verdict)
     (long : 90 ≤ length lent)
     (wide : 12 ≤ length scratch)
   where
@@ -170,9 +186,9 @@ example text output =
     let recipe-read = recipe-reading ∙ table .of-files .recipe-read in
     let made = output .decided .planned (λ i. read i .verdict) (λ i. recipe-read i .verdict) in
     let call =
-    subst (λ (x : CellReading). PlanCall (x .cell) benchRecipe (made .table) (made .scratch) (output .table) (made .scratch′) (output .decided .plan)) read
+    subst (λ (x : CellReading). PlanCall (x .cell) (benchRecipe ∷ []) (made .table) (made .scratch) (output .table) (made .scratch′) (output .decided .plan)) read
     (subst
-    (λ (x : RecipeReading). PlanCall (readCell (take 8192 (cellFile 5)) .cell) (x .recipe) (made .table)
+    (λ (x : RecipeReading). PlanCall (readCell (take 8192 (cellFile 5)) .cell) (x .recipe ∷ []) (made .table)
     (made .scratch) (output .table) (made .scratch′) (output .decided .plan))
     recipe-read
     (made .call)) in

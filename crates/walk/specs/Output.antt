@@ -15,6 +15,7 @@ use Rattle.cell.specs.Reader.{readCell}
 use Rattle.recipe.specs.declared.Recipe.{Recipe}
 use Rattle.recipe.specs.declared.RecipeReading.{RecipeReading}
 use Rattle.recipe.specs.Reader.{readRecipe}
+use Rattle.records.specs.Encoding.{recipeFrom}
 use Rattle.run.specs.declared.Run.{Run}
 use Rattle.run.specs.Calls.{freshRun}
 use Rattle.planner.specs.Call.{PlanCall}
@@ -42,14 +43,15 @@ CellRead reading = (file : List ℕ) × (reading ≡ readCell (take 8192 file))
 abbrev pub RecipeRead : RecipeReading → Type 0
 RecipeRead reading = (file : List ℕ) × (reading ≡ readRecipe (take 8192 file))
 
--- "Its table and scratch have 8192 places", the scratch eight in a byte: the table and the verdict that a plan call leaves
+-- "Its table and scratch have 8192 places", the scratch eight in a byte: the table and the verdict that a plan call leaves, of which the
+-- recipe is the one chapter
 pub record PlanMade (c : Cell) (r : Recipe) (table′ : List ℕ) (verdict : Verdict) : Type 0 where
   pub table : List ℕ
   pub scratch : List ℕ
   pub scratch′ : List ℕ
   pub table-places : length table ≡ 8192
   pub scratch-places : length scratch * 8 ≡ 8192
-  pub call : PlanCall c r table scratch table′ scratch′ verdict
+  pub call : PlanCall c (r ∷ []) table scratch table′ scratch′ verdict
 
 -- what two files lead to: the verdict on the cell, then on the recipe, then on the plan, and a planned table
 pub record Decided (cellFile recipeFile table : List ℕ) (verdict : Verdict) : Type 0 where
@@ -61,13 +63,13 @@ pub record Decided (cellFile recipeFile table : List ℕ) (verdict : Verdict) : 
       → readRecipe (take 8192 recipeFile) .verdict ≡ Accepted
       → PlanMade (readCell (take 8192 cellFile) .cell) (readRecipe (take 8192 recipeFile) .recipe) table plan
 
--- what the program has when it begins to follow: the verdict, and the records and the table of two files
-pub record Prepared (table : List ℕ) (ready : Ready) : Type 0 where
+-- what the program has when it begins to follow: the verdict, and the records and the table of two files; the recipe's record as bytes
+pub record Prepared (recipes table : List ℕ) (ready : Ready) : Type 0 where
   pub cellFile : List ℕ
   pub recipeFile : List ℕ
   pub decided : Decided cellFile recipeFile table (ready .verdict)
   pub cell-is : ready .cell ≡ readCell (take 8192 cellFile) .cell
-  pub recipe-is : ready .recipe ≡ readRecipe (take 8192 recipeFile) .recipe
+  pub recipe-is : ready .verdict ≡ Accepted → recipeFrom recipes ≡ readRecipe (take 8192 recipeFile) .recipe
 
 -- all that is printed for the bytes of two files and of standard input
 pub record Output (cellFile recipeFile input text : List ℕ) : Type 0 where

@@ -5,13 +5,13 @@ ghost use mathlib.Core.List.{[], _∷_};
 ghost use Prim.Native.Nat.{_*_, _≤_};
 ghost use lib.ListN.{length};
 ghost use Rattle.refusals.specs.Verdict.{firstRefusal};
+ghost use Rattle.records.specs.Encoding.{recipeFrom};
 ghost use Rattle.io.specs.Counts.{Counts};
 ghost use Rattle.walk.specs.Output.{below, CellRead, RecipeRead, Prepared, Stepped, Followed};
 use cell::Cell;
 use cell::CellReading;
 use libc::STDIN_FILENO;
 use libc::STDOUT_FILENO;
-use recipe::Recipe;
 use recipe::RecipeReading;
 use refusals::Verdict;
 use run::Run;
@@ -26,7 +26,6 @@ pub struct Printed {
 pub struct Ready {
     pub verdict: Verdict,
     pub cell: Cell,
-    pub recipe: Recipe,
 }
 
 // What one read of standard input comes to: how many bytes it gave, how many bytes of text were
@@ -115,10 +114,12 @@ fn first_refusal(first: Verdict, second: Verdict) -> Verdict
     second
 }
 
-// Reads the cell and the recipe, and plans with 8192 places: a scratch of 1024 bytes has as many.
-fn prepare(table: &mut [u32]) -> Ready
+// Reads the cell and the recipe, of which it keeps the record's bytes, and plans with 8192 places: a scratch of 1024 bytes has as
+// many.
+fn prepare(recipes: &mut [u8], table: &mut [u32]) -> Ready
+    requires { ⌜ length (now recipes) ≡ 449 ⌝ }
     requires { ⌜ length (now table) ≡ 8192 ⌝ }
-    ensures { λ r. ⌜ Prepared (now (table .exit)) r ⌝ }
+    ensures { λ r. ⌜ Prepared (now (recipes .exit)) (now (table .exit)) r ⌝ }
 {
     let reading = read_cell();
     let first = reading.verdict;
@@ -128,33 +129,27 @@ fn prepare(table: &mut [u32]) -> Ready
     let recipe = reading.recipe;
     let verdict = first_refusal(first, second);
     let Verdict::Accepted = verdict else {
-        return Ready {
-            verdict,
-            cell,
-            recipe,
-        };
+        return Ready { verdict, cell };
     };
+    records::put_recipe(recipe, recipes);
     let mut scratch = [0u8; 1024];
-    let verdict = planner::plan(cell, recipe, table, &mut scratch);
-    Ready {
-        verdict,
-        cell,
-        recipe,
-    }
+    let verdict = planner::plan(cell, recipes, table, &mut scratch);
+    Ready { verdict, cell }
 }
 
 // Takes what one read gives and prints its answer, before more is waited for. A text that cannot be
 // written ends the walk, as does the end of the input.
 fn take_some(
     cell: Cell,
-    recipe: Recipe,
+    recipes: &[u8],
     table: &[u32],
     run: Run,
     bytes: &mut [u8],
     text: &mut [u8],
 ) -> Step
+    requires { ⌜ length (now recipes) ≡ 449 ⌝ }
     requires { ⌜ 64 * length (now bytes) ≤ length (now text) ⌝ }
-    ensures { λ r. ⌜ Stepped cell recipe (now (table .entry)) run (now (bytes .exit)) (now (text .exit)) r ⌝ }
+    ensures { λ r. ⌜ Stepped cell (recipeFrom (now (recipes .entry))) (now (table .entry)) run (now (bytes .exit)) (now (text .exit)) r ⌝ }
 {
     let read = libc::read(STDIN_FILENO, bytes);
     let got = io::count(read, bytes);
@@ -167,7 +162,7 @@ fn take_some(
             run,
         };
     }
-    let answer = printout::turn::answers(cell, recipe, table, run, &bytes[..got], text);
+    let answer = printout::turn::answers(cell, recipes, table, run, &bytes[..got], text);
     let length = answer.length;
     let next = answer.run;
     let printed = print(&text[..length]);
@@ -191,8 +186,9 @@ fn take_some(
 
 // Follows a table from a fresh run. A proved loop has to end, and nothing says that standard input
 // does; so the reads are counted down.
-fn follow(cell: Cell, recipe: Recipe, table: &[u32], reads: u64) -> Step
-    ensures { λ r. ⌜ Followed cell recipe (now (table .entry)) reads r ⌝ }
+fn follow(cell: Cell, recipes: &[u8], table: &[u32], reads: u64) -> Step
+    requires { ⌜ length (now recipes) ≡ 449 ⌝ }
+    ensures { λ r. ⌜ Followed cell (recipeFrom (now (recipes .entry))) (now (table .entry)) reads r ⌝ }
 {
     let mut bytes = [0u8; 1024];
     let mut text = io::large_buffer();
@@ -205,7 +201,7 @@ fn follow(cell: Cell, recipe: Recipe, table: &[u32], reads: u64) -> Step
     };
     let mut left = reads;
     while left > 0 && step.more {
-        step = take_some(cell, recipe, table, step.run, &mut bytes, &mut text);
+        step = take_some(cell, recipes, table, step.run, &mut bytes, &mut text);
         left -= 1;
     }
     step
@@ -216,13 +212,14 @@ fn main() {
     if names.failed {
         return;
     }
+    let mut recipes = [0u8; 449];
     let mut table = [0u32; 8192];
-    let ready = prepare(&mut table);
+    let ready = prepare(&mut recipes, &mut table);
     let verdict = ready.verdict;
     let Verdict::Accepted = verdict else {
         print_refusal(verdict);
         return;
     };
     // No walk uses up so many reads.
-    follow(ready.cell, ready.recipe, &table, u64::MAX);
+    follow(ready.cell, &recipes, &table, u64::MAX);
 }

@@ -2,7 +2,7 @@
 use mathlib.Core.Path.{_≡_, refl, sym, ap, _∙_}
 use mathlib.Core.Bool.{Bool, true, false, cond, not, _&&_, _||_}
 use mathlib.Core.List.{List, [], _∷_}
-use Prim.Native.Nat.{ℕ, _<_}
+use Prim.Native.Nat.{ℕ, suc, _<_}
 use native.Mathlib.Decide.{ℕ-discrete}
 use native.Mathlib.Omega.{arith}
 use lib.ListN.{length, getD}
@@ -16,7 +16,10 @@ use Rattle.refusals.specs.Verdict.{firstRefusal, firstLine, noLine, rule3, line
 use Rattle.refusals.proofs.EveryBelow.{all-at}
 use Rattle.refusals.proofs.Verdicts.{and-left}
 use Rattle.cell.specs.declared.Cell.{Cell}
-use Rattle.recipe.specs.declared.Recipe.{Recipe}
+use Rattle.chapters.specs.Joined.{Chapters, chapterAt, Point, pointIn, firstPoint, kindAt}
+use Rattle.chapters.specs.Sizes.{Measures, sizesIn, entryIn}
+use Rattle.chapters.specs.Checked.{AllChecked}
+use Rattle.chapters.proofs.OneChapter.{one-lands}
 use Rattle.run.specs.Book.{asks, moved, opened, byTable, atEnd, isOpen, answer, moments, answers}
 use Rattle.run.specs.Promises.{neverShut, Promises}
 use Rattle.cell.specs.Rules as cell
@@ -28,7 +31,7 @@ use Rattle.positions.specs.Sizes.{stateCount, stateCounts, partsIn, partCount, 
 use Rattle.positions.specs.Position.{start, stateNumber, placeNumber, positionOf, stateWeight, pointAt, stateAt, placeAt, configurationAt, entryOf}
 use Rattle.positions.specs.Rules.{recordRules, rule13, checkSizes, placeCount, isPosition, placeFits, stateFits}
 use Rattle.positions.specs.Checked.{Checked}
-use Rattle.positions.proofs.CheckedSizes.{checked-fits, sizes-checked}
+use Rattle.positions.proofs.CheckedSizes.{checked-fits}
 use Rattle.positions.proofs.PositionNumbers.{position-lt}
 use Rattle.steps.specs.Lines.{firstLineOf, linesOf, kindOf, thenOf, elseOf, isTaken, isGiven}
 use Rattle.steps.specs.Limits.{load, keepsLimits, noneOverfull}
@@ -39,17 +42,20 @@ use Rattle.steps.specs.Entry.{entryKind, letter, unused, linesUsed, carryLetter
 use Rattle.steps.specs.Effect.{taken, effect, isMove, opens, leaves, makes, leadsTo}
 use Rattle.steps.proofs.StationLoads.{all-kept}
 use Rattle.steps.proofs.EntryForms.{carryEntry}
-use Rattle.simulation.specs.Simulation.{Position, Set, Greatest, Realisable}
+use Rattle.simulation.specs.Simulation.{Position, PositionIn, Set, Greatest, Realisable}
 use Rattle.simulation.specs.Plan.{Planned}
 use Rattle.simulation.proofs.Machine.{Lost}
 use Rattle.simulation.proofs.CellMachine.{machineOf}
+use Rattle.simulation.proofs.JoinedMachine.{joinedMachine, joined-starts}
 use Rattle.simulation.proofs.ClosedTableTest.{rankOf, hasEntry, leadsOn, closedAt, isClosed, closed-table}
 use Rattle.simulation.proofs.StageTest.{stageOf, noMore, lower, keepsStage, staysStaged, movesStaged, positionStaged, areStages}
 use Rattle.simulation.proofs.StageListSound.{stages-lost}
-use Rattle.simulation.proofs.JointIsSingle.{SingleSimulation, within, is-within, single-joint}
-use Rattle.simulation.proofs.ClosedTableIsPlan.{planned, starts}
-use Rattle.worked.specs.Moves.{filled, benchCell, benchRecipe, benchSizes, benchEntry, benchTable, benchRanks}
+use Rattle.simulation.proofs.JointIsSingle.{SingleGoesOn, SingleSimulation, within, is-within, single-joint}
+use Rattle.simulation.proofs.ClosedTableIsPlan.{planned}
+use Rattle.worked.specs.Moves.{filled, benchCell, benchRecipe, benchSizes, benchMeasures, benchEntry, benchTable, benchRanks}
 use Rattle.worked.specs.Plans.{benchStages, deadRecipe, deadStages, endRecipe}
+use Rattle.worked.proofs.SingleRecipes.{single-entries, single-entry, single-numbered, single-position, single-only, single-checked}
+use Rattle.worked.proofs.SingleRecipes.{all-checked, single-closed, single-lost}
 use Rattle.worked.proofs.Certificates.{staged-unrealisable}
 
 abbrev deadSizes : Sizes
@@ -59,12 +65,12 @@ deadSizes = sizesOf benchCell deadRecipe
 pub record Computed : Type 0 where
   pub sized : checkSizes benchCell benchRecipe ≡ Accepted
   pub positions : benchSizes .positions ≡ 90
-  closed : isClosed benchCell benchRecipe benchSizes benchTable benchRanks ≡ true
+  pub closed : isClosed benchCell benchRecipe benchSizes benchTable benchRanks ≡ true
   staged : areStages benchCell benchRecipe benchSizes benchStages ≡ true
   -- every position without an entry has a stage
   rest : allBelow (λ m. not (eqb (getD benchTable m 0) 0) || ltb 0 (getD benchStages m 0)) 90 ≡ true
-  entries : length benchTable ≡ 90
-  begun : entryOf benchSizes benchTable 0 start ≡ 50331648
+  pub entries : length benchTable ≡ 90
+  pub begun : entryOf benchSizes benchTable 0 start ≡ 50331648
   pub dead-sized : checkSizes benchCell deadRecipe ≡ Accepted
   dead-staged : areStages benchCell deadRecipe deadSizes deadStages ≡ true
   dead-start : stageOf deadSizes deadStages 0 start ≡ 3
@@ -131,8 +137,8 @@ computed =
       unlimited = refl;
     }
 
-pub bench-checked : Checked benchCell benchRecipe benchSizes
-bench-checked = sizes-checked benchCell benchRecipe (computed .sized)
+bench-checked : Checked benchCell benchRecipe benchSizes
+bench-checked = single-checked benchCell benchRecipe (computed .sized)
 
 passes : (x y : Bool) → (not x || y) ≡ true → x ≡ true → y ≡ true
 passes true y e h = e
@@ -152,19 +158,27 @@ zeros p a valid none =
     stages-lost benchCell benchRecipe benchSizes benchStages bench-checked (computed .staged) p a valid high
 
 -- the table is a plan: its 25 entries stand at the positions of the greatest simulation, and they keep every promise
-pub bench-planned : Planned benchCell benchRecipe benchSizes benchTable benchTable false
+pub bench-planned : Planned benchCell (benchRecipe ∷ []) benchMeasures benchTable benchTable false
 bench-planned =
-    planned benchCell benchRecipe benchSizes bench-checked refl benchTable benchTable (rankOf benchSizes benchRanks) false
-    (omega (arith, computed .positions, computed .entries))
-    (closed-table benchCell benchRecipe benchSizes benchTable benchRanks bench-checked (computed .closed))
-    zeros
-    (λ e zero. omega (arith, computed .begun))
+    planned benchCell (benchRecipe ∷ []) (all-checked benchCell benchRecipe (computed .sized)) benchTable benchTable
+    (λ p a. rankOf benchSizes benchRanks (p .point) a) false
+    (omega (arith, single-entries benchCell benchRecipe, computed .positions, computed .entries))
+    (single-closed benchCell benchRecipe (computed .sized) benchTable (rankOf benchSizes benchRanks)
+    (closed-table benchCell benchRecipe benchSizes benchTable benchRanks bench-checked (computed .closed)))
+    (single-only benchCell benchRecipe
+    (λ (p : Point) (a : Configuration).
+    entryIn benchMeasures benchTable p a ≡ 0 → Lost (joinedMachine benchCell (benchRecipe ∷ []) benchMeasures) p a)
+    (λ p a valid none.
+    single-lost benchCell benchRecipe (computed .sized) p a valid
+    (zeros p a valid (sym (single-entry benchCell benchRecipe benchTable p a) ∙ none))))
+    (λ p a valid end (next : suc (p .chapter) < 1). absurd (omega arith))
+    (λ e zero. omega (arith, sym (single-entry benchCell benchRecipe benchTable 0 start) ∙ zero, computed .begun))
     (λ e. cc)
     refl
     (λ n high. refl)
 
 -- ‡ "point 3 as `3,2,2,1,0,2,2` gives 15, the station having left state 1": no simulation holds the start
-pub dead-recipe : Realisable benchCell deadRecipe → ⊥
+pub dead-recipe : Realisable benchCell (deadRecipe ∷ []) → ⊥
 dead-recipe =
     staged-unrealisable benchCell deadRecipe (computed .dead-sized) deadStages (computed .dead-staged) (omega (arith, computed .dead-start))
 
@@ -175,68 +189,84 @@ never-refused true e h = refl
 never-refused false e h = h
 
 pub plan-opens :
-    (c : Cell) (r : Recipe) (z : Sizes) (table : List ℕ) (p : ℕ) (a : Configuration)
-    → Promises c r z table p a (asks ∷ [])
-    → isOpen c r (opened p a) (entryOf z table p a) ≡ true
-unfolding moments answers answer every byTable opened entryOf
-plan-opens c r z table p a promises =
-    let e : ℕ = entryOf z table p a in
-    let h : (neverShut (cond (isOpen c r (opened p a) e) (moved 0 e) (moved (numberOf NotOpen) 0)) && true) ≡ true = promises .keeps .never-shut in
-    never-refused (isOpen c r (opened p a) e) e (and-left _ true h)
+    (c : Cell) (rs : Chapters) (zs : Measures) (table : List ℕ) (p : Point) (a : Configuration)
+    → Promises c rs zs table p a (asks ∷ [])
+    → isOpen c rs (opened p a) (entryIn zs table p a) ≡ true
+unfolding moments answers answer every byTable opened entryIn
+plan-opens c rs zs table p a promises =
+    let e : ℕ = entryIn zs table p a in
+    let h : (neverShut (cond (isOpen c rs (opened p a) e) (moved 0 e) (moved (numberOf NotOpen) 0)) && true) ≡ true = promises .keeps .never-shut in
+    never-refused (isOpen c rs (opened p a) e) e (and-left _ true h)
 
-end-entry : (c : Cell) (r : Recipe) (p : ℕ) (a : Configuration) (e : ℕ) → kindOf r p ≡ 0 → isOpen c r (opened p a) e ≡ true → e ≡ 67108864
+end-entry : (c : Cell) (rs : Chapters) (p : Point) (a : Configuration) (e : ℕ) → kindAt rs p ≡ 0 → isOpen c rs (opened p a) e ≡ true → e ≡ 67108864
 unfolding isOpen atEnd opened
-end-entry c r p a e done way = eqb-true e 67108864 (rw (eq-eqb (kindOf r p) 0 done) at way)
+end-entry c rs p a e done way = eqb-true e 67108864 (rw (eq-eqb (kindAt rs p) 0 done) at way)
 
 -- of any table that is a plan
-module _ (before table : List ℕ) (refused : Bool) (plan : Planned benchCell benchRecipe benchSizes before table refused) where
+module _ (before table : List ℕ) (refused : Bool) (plan : Planned benchCell (benchRecipe ∷ []) benchMeasures before table refused) where
   -- ‡ "entry 1 is 0"
   pub entry-one : getD table 1 0 ≡ 0
-  unfolding entryOf
   entry-one = decide (ℕ-discrete (getD table 1 0) 0)
     where
-      first : Position benchSizes (pointAt benchSizes 1) (configurationAt benchSizes 1)
-      first = record { in-range = computed .first-range; six = computed .first-six; eight = computed .first-eight }
+      first : PositionIn (benchRecipe ∷ []) benchMeasures (pointIn 0 (pointAt benchSizes 1)) (configurationAt benchSizes 1)
+      first =
+          single-position benchCell benchRecipe _ _
+          (record { in-range = computed .first-range; six = computed .first-six; eight = computed .first-eight })
+
+      numbered : (t : List ℕ) → entryIn benchMeasures t (pointIn 0 (pointAt benchSizes 1)) (configurationAt benchSizes 1) ≡ getD t 1 0
+      numbered t = single-numbered benchCell benchRecipe t (pointAt benchSizes 1) (configurationAt benchSizes 1) 1 (computed .first-number)
 
       decide : Dec (getD table 1 0 ≡ 0) → getD table 1 0 ≡ 0
       decide (yes e) = e
       decide (no some) =
           absurd
-          (bench-planned .zero-lacks _ _ first (ap (λ (n : ℕ). getD benchTable n 0) (computed .first-number) ∙ computed .first-none)
-          (plan .entry-holds _ _ first (λ e. some (sym (ap (λ (n : ℕ). getD table n 0) (computed .first-number)) ∙ e))))
+          (bench-planned .zero-lacks _ _ first (numbered benchTable ∙ computed .first-none)
+          (plan .entry-holds _ _ first (λ e. some (sym (numbered table) ∙ e))))
 
   -- ‡ "entry 72 is 67108864"
   pub entry-last : getD table 72 0 ≡ 67108864
-  unfolding entryOf
+  unfolding chapterAt
   entry-last =
-      let last : Position benchSizes 4 start = record { in-range = computed .last-range; six = computed .six; eight = computed .eight } in
-      let held : Greatest benchCell benchRecipe benchSizes 4 start =
-      bench-planned .entry-holds 4 start last
-      (λ e. omega
-      (arith, sym (ap (λ (n : ℕ). getD benchTable n 0) (computed .last-number)) ∙ e, computed .last-some)) in
-      let some : entryOf benchSizes table 4 start ≡ 0 → ⊥ = λ e. plan .zero-lacks 4 start last e held in
-      sym (ap (λ (n : ℕ). getD table n 0) (computed .last-number))
-      ∙ end-entry benchCell benchRecipe 4 start _ (computed .last-end)
-      (plan-opens benchCell benchRecipe benchSizes table 4 start (plan .promises 4 start last some (asks ∷ [])))
+      let at : Point = pointIn 0 4 in
+      let last : PositionIn (benchRecipe ∷ []) benchMeasures at start =
+      single-position benchCell benchRecipe 4 start (record { in-range = computed .last-range; six = computed .six; eight = computed .eight }) in
+      let held : Greatest benchCell (benchRecipe ∷ []) benchMeasures at start =
+      bench-planned .entry-holds at start last (λ e. omega (arith, sym (numbered benchTable) ∙ e, computed .last-some)) in
+      let some : entryIn benchMeasures table at start ≡ 0 → ⊥ = λ e. plan .zero-lacks at start last e held in
+      sym (numbered table)
+      ∙ end-entry benchCell (benchRecipe ∷ []) at start _ (computed .last-end)
+      (plan-opens benchCell (benchRecipe ∷ []) benchMeasures table at start (plan .promises at start last some (asks ∷ [])))
+    where
+      numbered : (t : List ℕ) → entryIn benchMeasures t (pointIn 0 4) start ≡ getD t 72 0
+      numbered t = single-numbered benchCell benchRecipe t 4 start 72 (computed .last-number)
 
 -- ‡ "a recipe of one end is accepted": it passes the rules before 15, and is realisable
-pub one-end : Realisable benchCell endRecipe
-unfolding noneOverfull
+pub one-end : Realisable benchCell (endRecipe ∷ [])
+unfolding noneOverfull chapterAt
 one-end =
-    let sizes = sizesOf benchCell endRecipe in
-    let checked = sizes-checked benchCell endRecipe (computed .end-sized) in
     record {
-      set = within sizes ends;
-      simulation = single-joint benchCell endRecipe sizes checked ends none-left;
-      member = is-within sizes ends 0 start (starts benchCell endRecipe sizes checked) refl;
+      set = within (endRecipe ∷ []) zs ends;
+      simulation = single-joint benchCell (endRecipe ∷ []) zs checked ends none-left;
+      member = is-within (endRecipe ∷ []) zs ends firstPoint start (joined-starts benchCell (endRecipe ∷ []) zs checked) refl;
     }
   where
-    ends : Set
-    ends p a = eqb p 0
+    zs : Measures
+    zs = sizesIn benchCell (endRecipe ∷ [])
 
-    none-left : SingleSimulation benchCell endRecipe (sizesOf benchCell endRecipe) ends
+    checked : AllChecked benchCell (endRecipe ∷ []) zs
+    checked = all-checked benchCell endRecipe (computed .end-sized)
+
+    ends : Set
+    ends p a = eqb (p .point) 0
+
+    none-left : SingleSimulation benchCell (endRecipe ∷ []) zs ends
     none-left =
         record {
           none-overfull = λ p a valid member. all-kept (benchCell .limits) (a .place) (computed .unlimited);
-          goes-on = λ p a valid member some. absurd (some (ap (kindOf endRecipe) (eqb-true p 0 member) ∙ computed .end-ends));
+          goes-on =
+              single-only benchCell endRecipe
+              (λ (p : Point) (a : Configuration).
+              ends p a ≡ true → (kindAt (endRecipe ∷ []) p ≡ 0 → ⊥) → SingleGoesOn benchCell (endRecipe ∷ []) ends p a)
+              (λ p a valid member some. absurd (some (ap (kindOf endRecipe) (eqb-true p 0 member) ∙ computed .end-ends)));
+          passes-on = λ p a valid member end. ap (λ (q : Point). ends q a) (one-lands endRecipe p) ∙ member;
         }

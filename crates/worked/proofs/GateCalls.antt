@@ -2,7 +2,7 @@
 -- lent. Assumes nothing.
 use mathlib.Core.Path.{_≡_, subst}
 use mathlib.Core.Bool.{true}
-use mathlib.Core.List.{List, []}
+use mathlib.Core.List.{List, [], _∷_}
 use Prim.Native.Nat.{ℕ, _+_, _/_, _<_, _≤_}
 use native.Mathlib.Omega.{arith}
 use lib.ListN.{length, getD}
@@ -10,7 +10,8 @@ use Rattle.refusals.specs.declared.Refusal.the-variants.{NotRealisable}
 use Rattle.refusals.specs.declared.Verdict.{Verdict}
 use Rattle.refusals.specs.declared.Verdict.the-variants.{Accepted, Refused}
 use Rattle.positions.specs.Position.{start}
-use Rattle.positions.proofs.CheckedSizes.{sizes-checked}
+use Rattle.chapters.specs.Joined.{firstPoint}
+use Rattle.chapters.specs.Sizes.{sizesIn}
 use Rattle.run.specs.Book.{Call, opened, byTable, moments}
 use Rattle.run.specs.Promises.{Keeps}
 use Rattle.planner.specs.Call.{PlanCall}
@@ -33,10 +34,13 @@ pub record Gated (table : List ℕ) (verdict : Verdict) : Type 0 where
   pub entry-62 : getD table 62 0 ≡ 50331652
   pub entry-92 : getD table 92 0 ≡ 50331654
   -- "The routing of parts is promised on either arrow", whatever is asked and reported from the start
-  pub keeps : (calls : List Call) → Keeps gateCell benchRecipe gateSizes 0 (moments gateCell benchRecipe (byTable gateSizes table) [] (opened 0 start) calls)
+  pub keeps :
+      (calls : List Call)
+      → Keeps gateCell (benchRecipe ∷ []) (sizesIn gateCell (benchRecipe ∷ [])) firstPoint
+      (moments gateCell (benchRecipe ∷ []) (byTable (sizesIn gateCell (benchRecipe ∷ [])) table) [] (opened firstPoint start) calls)
 
 module _ (table scratch table′ scratch′ : List ℕ) (verdict : Verdict) where
-  module _ (call : PlanCall gateCell benchRecipe table scratch table′ scratch′ verdict) (long : 120 ≤ length table) (wide : 15 ≤ length scratch) where
+  module _ (call : PlanCall gateCell (benchRecipe ∷ []) table scratch table′ scratch′ verdict) (long : 120 ≤ length table) (wide : 15 ≤ length scratch) where
     fits : gateSizes .positions ≤ length table
     fits = omega (arith, computed .gate-positions)
 
@@ -48,7 +52,7 @@ module _ (table scratch table′ scratch′ : List ℕ) (verdict : Verdict) wher
 
     move : (m x : ℕ) → m < 120 → 0 < x → soleIn gateCell benchRecipe gateSizes gateTable m x ≡ true → getD table′ m 0 ≡ x
     move m x low some =
-        sole-planned gateCell benchRecipe gateSizes (sizes-checked gateCell benchRecipe (computed .gate-sized)) table table′ (call .refused)
+        sole-planned gateCell benchRecipe (computed .gate-sized) table table′ (call .refused)
         (call .planned (check-passes gateCell benchRecipe (computed .gate-sized) (led-recipes .bench) (length table) (length scratch) fits roomy))
         gateTable (entry-greatest gateCell benchRecipe (computed .gate-sized) gateTable gateRanks (computed .gate-closed)) m x
         (omega (arith, computed .gate-positions)) some
@@ -63,13 +67,13 @@ module _ (table scratch table′ scratch′ : List ℕ) (verdict : Verdict) wher
           entry-62 = move 62 50331652 (omega arith) (omega arith) (computed .left);
           entry-92 = move 92 50331654 (omega arith) (omega arith) (computed .taken-out);
           keeps =
-              λ calls. demand-3 gateCell benchRecipe table scratch table′ scratch′
-              (subst (λ (v : Verdict). PlanCall gateCell benchRecipe table scratch table′ scratch′ v) is call) calls
+              λ calls. demand-3 gateCell (benchRecipe ∷ []) table scratch table′ scratch′
+              (subst (λ (v : Verdict). PlanCall gateCell (benchRecipe ∷ []) table scratch table′ scratch′ v) is call) calls
               .keeps;
         }
 
   pub again-called :
-      PlanCall againCell againRecipe table scratch table′ scratch′ verdict
+      PlanCall againCell (againRecipe ∷ []) table scratch table′ scratch′ verdict
       → 72 ≤ length table
       → 9 ≤ length scratch
       → verdict ≡ Accepted
@@ -78,7 +82,7 @@ module _ (table scratch table′ scratch′ : List ℕ) (verdict : Verdict) wher
       (omega (arith, computed .again-positions)) (omega (arith, computed .again-positions)) again-realisable
 
   pub left-called :
-      PlanCall benchCell againRecipe table scratch table′ scratch′ verdict
+      PlanCall benchCell (againRecipe ∷ []) table scratch table′ scratch′ verdict
       → 72 ≤ length table
       → 9 ≤ length scratch
       → verdict ≡ Refused NotRealisable 0
@@ -87,7 +91,7 @@ module _ (table scratch table′ scratch′ : List ℕ) (verdict : Verdict) wher
       (omega (arith, computed .left-positions)) (omega (arith, computed .left-positions)) left-behind
 
   pub stuck-called :
-      PlanCall againCell benchRecipe table scratch table′ scratch′ verdict
+      PlanCall againCell (benchRecipe ∷ []) table scratch table′ scratch′ verdict
       → 90 ≤ length table
       → 12 ≤ length scratch
       → verdict ≡ Refused NotRealisable 0

@@ -1,6 +1,7 @@
 -- The cells with reject gates: which of them can build which recipe, by moves, ranks and stages that are computed. Assumes nothing.
 use mathlib.Core.Path.{_≡_, refl}
 use mathlib.Core.Bool.{true}
+use mathlib.Core.List.{[], _∷_}
 use native.Mathlib.Omega.{arith}
 use Rattle.refusals.specs.declared.Verdict.the-variants.{Accepted}
 use Rattle.refusals.specs.Search.{firstBelow, anyBelow, allBelow, countBelow, greatestBelow, tabulate, isOf}
@@ -96,18 +97,18 @@ computed =
       stuck-start = refl;
     }
 
-pub gate-realisable : Realisable gateCell benchRecipe
+pub gate-realisable : Realisable gateCell (benchRecipe ∷ [])
 gate-realisable =
     closed-realisable gateCell benchRecipe (computed .gate-sized) gateTable gateRanks (computed .gate-closed)
     (λ none. omega (arith, computed .gate-begun, none))
 
-pub again-realisable : Realisable againCell againRecipe
+pub again-realisable : Realisable againCell (againRecipe ∷ [])
 again-realisable =
     closed-realisable againCell againRecipe (computed .again-sized) againTable againRanks (computed .again-closed)
     (λ none. omega (arith, computed .again-begun, none))
 
-pub left-behind : Realisable benchCell againRecipe → ⊥
+pub left-behind : Realisable benchCell (againRecipe ∷ []) → ⊥
 left-behind = staged-unrealisable benchCell againRecipe (computed .left-sized) leftStages (computed .left-staged) (omega (arith, computed .left-start))
 
-pub stuck : Realisable againCell benchRecipe → ⊥
+pub stuck : Realisable againCell (benchRecipe ∷ []) → ⊥
 stuck = staged-unrealisable againCell benchRecipe (computed .stuck-sized) stuckStages (computed .stuck-staged) (omega (arith, computed .stuck-start))

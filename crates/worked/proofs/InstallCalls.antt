@@ -108,7 +108,7 @@ module _
 
     -- and a scratch that isn't either
     module _ (wide : (sizesOf c r .positions + 7) / 8 ≤ length scratch) where
-      before : checkPlan c r (length table) (length scratch) ≡ Accepted
+      before : checkPlan c (r ∷ []) (length table) (length scratch) ≡ Accepted
       before = check-passes c r sized led (length table) (length scratch) long wide
 
       module _ (free : c .count < 64) where
@@ -116,7 +116,7 @@ module _
         passes = free-accepted c r (length table) (length scratch) before free
 
         pub call-lists :
-            (Realisable c r → ⊥)
+            (Realisable c (r ∷ []) → ⊥)
             → (lines : List OperationLine) (count : ℕ)
             → Listed c r lines
             → length lines ≡ count
@@ -130,7 +130,7 @@ module _
               bytes = call .list-is ∙ ap (λ (xs : List OperationLine). filledWith xs list) same;
             }
 
-        pub call-needs-none : Realisable c r → NoneNeeded list list′ answer
+        pub call-needs-none : Realisable c (r ∷ []) → NoneNeeded list list′ answer
         call-needs-none builds =
             record {
               accepted = call .verdict-is ∙ passes;

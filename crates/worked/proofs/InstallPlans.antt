@@ -189,7 +189,7 @@ computed =
     }
 
 -- without line 3 the recipe is not realisable, and 1,1,2,2 alone mends the cell
-pub untested-fails : Realisable untestedCell benchRecipe → ⊥
+pub untested-fails : Realisable untestedCell (benchRecipe ∷ []) → ⊥
 untested-fails = unmended untestedCell benchRecipe endingStages (computed .untested-idle)
 
 pub untested-listed : Listed untestedCell benchRecipe testingLines
@@ -208,7 +208,7 @@ untested-listed =
 -- "alone": all 36 others together would make it realisable, yet none is listed
 pub record Together : Type 0 where
   pub many : length allOthers ≡ 36
-  pub builds : Realisable (withLines untestedCell allOthers) benchRecipe
+  pub builds : Realisable (withLines untestedCell allOthers) (benchRecipe ∷ [])
 
 pub together : Together
 together =
@@ -220,7 +220,7 @@ together =
     }
 
 -- without line 0 it is 0,0,1,1 and 1,0,1,1
-pub unfed-fails : Realisable unfedCell benchRecipe → ⊥
+pub unfed-fails : Realisable unfedCell (benchRecipe ∷ []) → ⊥
 unfed-fails = unmended unfedCell benchRecipe (firstStages 90) (computed .unfed-idle)
 
 pub unfed-listed : Listed unfedCell benchRecipe feedingLines
@@ -237,7 +237,7 @@ unfed-listed =
     (or-cases (isAmong l idleFeeding) _ h))
 
 -- the station of two states: three lines
-pub turned-fails : Realisable turnedCell turnedRecipe → ⊥
+pub turned-fails : Realisable turnedCell (turnedRecipe ∷ []) → ⊥
 turned-fails = unmended turnedCell turnedRecipe turnedStages (computed .turned-idle)
 
 pub turned-listed : Listed turnedCell turnedRecipe turningLines
@@ -254,7 +254,7 @@ turned-listed =
     (idle-mends-none turnedCell turnedRecipe turningLines otherTurned (computed .turned) otherTurning turnedStages (computed .turning-idle))
 
 -- the station of one state: one line, and no other is tried
-pub single-fails : Realisable singleCell (singleRecipe 2) → ⊥
+pub single-fails : Realisable singleCell (singleRecipe 2 ∷ []) → ⊥
 single-fails = unmended singleCell (singleRecipe 2) (firstStages 4) (computed .single-idle)
 
 pub single-listed : Listed singleCell (singleRecipe 2) singleLines
@@ -267,7 +267,7 @@ single-listed =
     (λ l (h : false ≡ true). absurd (true≢false (sym h)))
 
 -- the full cell builds its recipe
-pub full-builds : Realisable fullCell (singleRecipe 1)
+pub full-builds : Realisable fullCell (singleRecipe 1 ∷ [])
 full-builds =
     closed-realisable fullCell (singleRecipe 1) (computed .full-sized) (singleTable 0) [] (computed .full-closed)
     (λ none. omega (arith, computed .full-begun, none))

@@ -1,7 +1,7 @@
 -- The worked examples of request 2, "Which process to install", as one table: what every install call answers, whatever was lent. Each
 -- row is computed, or follows from what is computed. Assumes nothing.
 use mathlib.Core.Path.{_≡_}
-use mathlib.Core.List.{List, _∷_}
+use mathlib.Core.List.{List, [], _∷_}
 use Prim.Native.Nat.{ℕ, _+_, _/_, _≤_}
 use lib.ListN.{length, drop}
 use Rattle.refusals.specs.declared.Refusal.the-variants.{FullCell}
@@ -93,7 +93,7 @@ pub record InstallTable : Type 0 where
       → 4 ≤ length table
       → 1 ≤ length scratch
       → Refuses FullCell table scratch list table′ scratch′ list′ answer
-  pub of-full-builds : Realisable fullCell (singleRecipe 1)
+  pub of-full-builds : Realisable fullCell (singleRecipe 1 ∷ [])
 
 pub install-table : InstallTable
 install-table =

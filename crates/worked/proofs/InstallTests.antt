@@ -17,16 +17,18 @@ use Rattle.cell.specs.declared.OperationLine.{OperationLine}
 use Rattle.cell.specs.Longer.{withLine, withLines}
 use Rattle.cell.proofs.LongerCell.{Columns}
 use Rattle.recipe.specs.declared.Recipe.{Recipe}
-use Rattle.positions.specs.declared.Sizes.{Sizes}
 use Rattle.positions.specs.Sizes.{resourceCount, stateCount, sizesOf}
 use Rattle.positions.specs.Checked.{Checked}
 use Rattle.positions.specs.Position.{start, entryOf}
 use Rattle.positions.specs.Rules.{checkSizes}
 use Rattle.positions.proofs.LongerSizes.{Suits}
 use Rattle.positions.proofs.CheckedSizes.{sizes-checked}
+use Rattle.chapters.specs.Joined.{firstPoint}
 use Rattle.simulation.specs.Simulation.{Greatest, Realisable}
+use Rattle.simulation.proofs.OneRecipe.{alone}
 use Rattle.simulation.proofs.ClosedTableTest.{isClosed}
 use Rattle.simulation.proofs.StageTest.{stageOf, areStages}
+use Rattle.planner.proofs.OnePlan.{held-realisable, realisable-held}
 use Rattle.install.specs.Candidates.{namesAt, isNamed, isCandidate, Mends}
 use Rattle.install.specs.Order.{sameLine, isAmong, rises}
 use Rattle.install.specs.Call.{Listed}
@@ -108,15 +110,15 @@ module _ (c : Cell) (r : Recipe) where
 
   -- not realisable by the cell with the group
   none-holds : (lines : List OperationLine) (stages : List ℕ) → Idle c r lines stages
-      → Greatest (withLines c lines) r (sizesOf c r) 0 start → ⊥
-  none-holds lines stages I =
-      subst (λ (z : Sizes). Greatest (withLines c lines) r z 0 start → ⊥) (I .sizes)
-      (staged-unrealisable (withLines c lines) r (I .sized) stages (I .staged) (ltb-true 0 _ (I .high)))
+      → Greatest (withLines c lines) (r ∷ []) (alone (sizesOf c r)) firstPoint start → ⊥
+  none-holds lines stages I held =
+      staged-unrealisable (withLines c lines) r (I .sized) stages (I .staged) (ltb-true 0 _ (I .high))
+      (held-realisable (withLines c lines) r (sizesOf c r) (sym (I .sizes)) held)
 
   -- nor by the cell itself, if that is the group
-  pub unmended : (stages : List ℕ) → Idle c r [] stages → Realisable c r → ⊥
+  pub unmended : (stages : List ℕ) → Idle c r [] stages → Realisable c (r ∷ []) → ⊥
   unfolding withLines
-  unmended = none-holds []
+  unmended stages I able = none-holds [] stages I (realisable-held c r (sizesOf c r) refl able)
 
   -- a test that passes at all those lines passes at every candidate
   candidate-passes :

@@ -2,7 +2,7 @@
 -- Assumes nothing.
 use mathlib.Core.Path.{_≡_, sym, subst, ap, _∙_}
 use mathlib.Core.Bool.{true}
-use mathlib.Core.List.{List, []}
+use mathlib.Core.List.{List, [], _∷_}
 use Prim.Native.Nat.{ℕ, _+_, _/_, _≤_}
 use native.Mathlib.Omega.{arith}
 use lib.ListN.{length, getD}
@@ -11,14 +11,17 @@ use Rattle.refusals.specs.declared.Verdict.{Verdict}
 use Rattle.refusals.specs.declared.Verdict.the-variants.{Accepted, Refused}
 use Rattle.refusals.specs.Search.{every}
 use Rattle.positions.specs.Position.{start, entryOf}
+use Rattle.chapters.specs.Joined.{pointIn, firstPoint}
+use Rattle.chapters.specs.Sizes.{sizesIn}
 use Rattle.run.specs.Book.{Call, opened, byTable, moments}
 use Rattle.run.specs.Promises.{neverOverfull}
 use Rattle.planner.specs.Call.{PlanCall}
 use Rattle.planner.proofs.Demands.{demand-3}
 use Rattle.worked.specs.Limited.{glueCell, glueRecipe, glueSizes, mendCell, mendRecipe, mendSizes}
-use Rattle.worked.specs.Limited.{nestCell, nestRecipe, nestSizes, twoParts, twoHandedOver}
+use Rattle.worked.specs.Limited.{nestCell, nestRecipe, twoParts, twoHandedOver}
 use Rattle.worked.proofs.LedRecipes.{led-recipes}
 use Rattle.worked.proofs.LentLengths.{check-passes, call-accepts, call-refuses}
+use Rattle.worked.proofs.SingleRecipes.{single-numbered, single-position}
 use Rattle.worked.proofs.OverfullPositions.{overfull-called}
 use Rattle.worked.proofs.LimitPlans.{computed, glue-of-two, glue-of-one, overfull-end, mend-realisable, mending, nest-of-two, nest-of-one}
 
@@ -38,13 +41,13 @@ pub record Nested (table : List ℕ) (verdict : Verdict) : Type 0 where
   pub accepted : verdict ≡ Accepted
   pub never-overfull :
       (calls : List Call)
-      → every (neverOverfull (nestCell 8 2) nestRecipe)
-      (moments (nestCell 8 2) nestRecipe (byTable (nestSizes 2) table) [] (opened 0 start) calls)
+      → every (neverOverfull (nestCell 8 2) (nestRecipe ∷ []))
+      (moments (nestCell 8 2) (nestRecipe ∷ []) (byTable (sizesIn (nestCell 8 2) (nestRecipe ∷ [])) table) [] (opened firstPoint start) calls)
       ≡ true
 
 module _ (table scratch table′ scratch′ : List ℕ) (verdict : Verdict) where
   pub glue-two-called :
-      PlanCall (glueCell 2) glueRecipe table scratch table′ scratch′ verdict
+      PlanCall (glueCell 2) (glueRecipe ∷ []) table scratch table′ scratch′ verdict
       → 12 ≤ length table
       → 2 ≤ length scratch
       → verdict ≡ Accepted
@@ -53,7 +56,7 @@ module _ (table scratch table′ scratch′ : List ℕ) (verdict : Verdict) wher
       (omega (arith, computed .two-positions)) (omega (arith, computed .two-positions)) glue-of-two
 
   pub glue-one-called :
-      PlanCall (glueCell 1) glueRecipe table scratch table′ scratch′ verdict
+      PlanCall (glueCell 1) (glueRecipe ∷ []) table scratch table′ scratch′ verdict
       → 12 ≤ length table
       → 2 ≤ length scratch
       → Overfull table′ verdict
@@ -71,7 +74,7 @@ module _ (table scratch table′ scratch′ : List ℕ) (verdict : Verdict) wher
       }
 
   pub mend-called :
-      PlanCall mendCell mendRecipe table scratch table′ scratch′ verdict
+      PlanCall mendCell (mendRecipe ∷ []) table scratch table′ scratch′ verdict
       → 108 ≤ length table
       → 14 ≤ length scratch
       → Mended table′ verdict
@@ -86,12 +89,12 @@ module _ (table scratch table′ scratch′ : List ℕ) (verdict : Verdict) wher
             sym (ap (λ (m : ℕ). getD table′ m 0) (mending .number))
             ∙ overfull-called mendCell mendRecipe table scratch table′ scratch′ verdict call passes 2 twoParts (mending .position) (mending .overfull);
         entry-62 =
-            λ none. call .planned passes .zero-lacks 2 twoHandedOver (mending .next-position)
-            (ap (λ (m : ℕ). getD table′ m 0) (mending .next-number) ∙ none) (mending .next-held);
+            λ none. call .planned passes .zero-lacks (pointIn 0 2) twoHandedOver (single-position mendCell mendRecipe 2 twoHandedOver (mending .next-position))
+            (single-numbered mendCell mendRecipe table′ 2 twoHandedOver 62 (mending .next-number) ∙ none) (mending .next-held);
       }
 
   pub nest-two-called :
-      PlanCall (nestCell 8 2) nestRecipe table scratch table′ scratch′ verdict
+      PlanCall (nestCell 8 2) (nestRecipe ∷ []) table scratch table′ scratch′ verdict
       → 72 ≤ length table
       → 9 ≤ length scratch
       → Nested table′ verdict
@@ -102,13 +105,13 @@ module _ (table scratch table′ scratch′ : List ℕ) (verdict : Verdict) wher
       record {
         accepted = is;
         never-overfull =
-            λ calls. demand-3 (nestCell 8 2) nestRecipe table scratch table′ scratch′
-            (subst (λ (v : Verdict). PlanCall (nestCell 8 2) nestRecipe table scratch table′ scratch′ v) is call) calls
+            λ calls. demand-3 (nestCell 8 2) (nestRecipe ∷ []) table scratch table′ scratch′
+            (subst (λ (v : Verdict). PlanCall (nestCell 8 2) (nestRecipe ∷ []) table scratch table′ scratch′ v) is call) calls
             .keeps .none-overfull;
       }
 
   pub nest-one-called :
-      PlanCall (nestCell 8 1) nestRecipe table scratch table′ scratch′ verdict
+      PlanCall (nestCell 8 1) (nestRecipe ∷ []) table scratch table′ scratch′ verdict
       → 72 ≤ length table
       → 9 ≤ length scratch
       → verdict ≡ Refused NotRealisable 0

@@ -2,7 +2,7 @@
 -- move mends. Assumes nothing.
 use mathlib.Core.Path.{_≡_, refl}
 use mathlib.Core.Bool.{true, false}
-use mathlib.Core.List.{[]}
+use mathlib.Core.List.{[], _∷_}
 use native.Mathlib.Omega.{arith}
 use lib.ListN.{length}
 use Rattle.refusals.specs.declared.Verdict.the-variants.{Accepted}
@@ -22,6 +22,8 @@ use Rattle.steps.specs.Carry.{serves, matches, standsAt, present, free, suits, 
 use Rattle.steps.specs.Entry.{entryKind, letter, unused, linesUsed, carryLetters, lettersUsed, namesGate, isLine, isFormed, only, stepOf, mayBeTaken}
 use Rattle.steps.specs.Effect.{taken, effect, isMove, opens, leaves, makes, leadsTo}
 use Rattle.steps.proofs.EntryForms.{carryEntry}
+use Rattle.chapters.specs.Joined.{pointIn}
+use Rattle.chapters.specs.Sizes.{sizesIn}
 use Rattle.simulation.specs.Simulation.{Position, Greatest, Realisable}
 use Rattle.simulation.proofs.ClosedTableTest.{rankOf, hasEntry, leadsOn, closedAt, isClosed}
 use Rattle.simulation.proofs.StageTest.{stageOf, noMore, lower, keepsStage, staysStaged, movesStaged, positionStaged, areStages}
@@ -130,11 +132,11 @@ computed =
       nest-start = refl;
     }
 
-pub glue-of-two : Realisable (glueCell 2) glueRecipe
+pub glue-of-two : Realisable (glueCell 2) (glueRecipe ∷ [])
 glue-of-two =
     closed-realisable (glueCell 2) glueRecipe (computed .two-sized) glueTable [] (computed .two-closed) (λ none. omega (arith, computed .two-begun, none))
 
-pub glue-of-one : Realisable (glueCell 1) glueRecipe → ⊥
+pub glue-of-one : Realisable (glueCell 1) (glueRecipe ∷ []) → ⊥
 glue-of-one =
     staged-unrealisable (glueCell 1) glueRecipe (computed .one-sized) glueStages (computed .one-staged) (omega (arith, computed .one-start))
 
@@ -154,7 +156,7 @@ overfull-end =
       overfull = computed .end-full;
     }
 
-pub mend-realisable : Realisable mendCell mendRecipe
+pub mend-realisable : Realisable mendCell (mendRecipe ∷ [])
 mend-realisable =
     closed-realisable mendCell mendRecipe (computed .mend-sized) mendTable mendRanks (computed .mend-closed)
     (λ none. omega (arith, computed .mend-begun, none))
@@ -172,7 +174,7 @@ pub record Mending : Type 0 where
   pub hands-over : makes mendCell mendRecipe 2 twoParts 33554561 0 ≡ twoHandedOver
   pub next-number : positionOf mendSizes 2 twoHandedOver ≡ 62
   pub next-position : Position mendSizes 2 twoHandedOver
-  pub next-held : Greatest mendCell mendRecipe mendSizes 2 twoHandedOver
+  pub next-held : Greatest mendCell (mendRecipe ∷ []) (sizesIn mendCell (mendRecipe ∷ [])) (pointIn 0 2) twoHandedOver
 
 pub mending : Mending
 mending =
@@ -192,11 +194,11 @@ mending =
           (λ none. omega (arith, computed .mended-entry, none));
     }
 
-pub nest-of-two : Realisable (nestCell 8 2) nestRecipe
+pub nest-of-two : Realisable (nestCell 8 2) (nestRecipe ∷ [])
 nest-of-two =
     closed-realisable (nestCell 8 2) nestRecipe (computed .nest-two-sized) nestTable nestRanks (computed .nest-closed)
     (λ none. omega (arith, computed .nest-begun, none))
 
-pub nest-of-one : Realisable (nestCell 8 1) nestRecipe → ⊥
+pub nest-of-one : Realisable (nestCell 8 1) (nestRecipe ∷ []) → ⊥
 nest-of-one =
     staged-unrealisable (nestCell 8 1) nestRecipe (computed .nest-one-sized) nestStages (computed .nest-staged) (omega (arith, computed .nest-start))

@@ -2,7 +2,7 @@
 -- Assumes nothing.
 use mathlib.Core.Path.{_≡_}
 use mathlib.Core.Bool.{false}
-use mathlib.Core.List.{List}
+use mathlib.Core.List.{List, [], _∷_}
 use Prim.Native.Nat.{ℕ, _≤_}
 use lib.ListN.{length}
 use Rattle.refusals.specs.declared.Refusal.the-variants.{NotRealisable}
@@ -33,8 +33,8 @@ pub record LimitTable : Type 0 where
   -- 15 given or not, of any cell and recipe
   pub of-overfull :
       (c : Cell) (r : Recipe) (table scratch table′ scratch′ : List ℕ) (verdict : Verdict)
-      → PlanCall c r table scratch table′ scratch′ verdict
-      → checkPlan c r (length table) (length scratch) ≡ Accepted
+      → PlanCall c (r ∷ []) table scratch table′ scratch′ verdict
+      → checkPlan c (r ∷ []) (length table) (length scratch) ≡ Accepted
       → (p : ℕ) (a : Configuration)
       → Position (sizesOf c r) p a
       → noneOverfull c a ≡ false
@@ -42,14 +42,14 @@ pub record LimitTable : Type 0 where
   -- a glue station that gets two parts: with limit 2 it is accepted
   pub of-two-places :
       (table scratch table′ scratch′ : List ℕ) (verdict : Verdict)
-      → PlanCall (glueCell 2) glueRecipe table scratch table′ scratch′ verdict
+      → PlanCall (glueCell 2) (glueRecipe ∷ []) table scratch table′ scratch′ verdict
       → 12 ≤ length table
       → 2 ≤ length scratch
       → verdict ≡ Accepted
   -- with limit 1 it gives 15, and entry 11, an overfull end, is 0
   pub of-one-place :
       (table scratch table′ scratch′ : List ℕ) (verdict : Verdict)
-      → PlanCall (glueCell 1) glueRecipe table scratch table′ scratch′ verdict
+      → PlanCall (glueCell 1) (glueRecipe ∷ []) table scratch table′ scratch′ verdict
       → 12 ≤ length table
       → 2 ≤ length scratch
       → Overfull table′ verdict
@@ -60,21 +60,21 @@ pub record LimitTable : Type 0 where
   pub of-mending : Mending
   pub of-mending-calls :
       (table scratch table′ scratch′ : List ℕ) (verdict : Verdict)
-      → PlanCall mendCell mendRecipe table scratch table′ scratch′ verdict
+      → PlanCall mendCell (mendRecipe ∷ []) table scratch table′ scratch′ verdict
       → 108 ≤ length table
       → 14 ≤ length scratch
       → Mended table′ verdict
   -- a nest with limit 2 is accepted, and "no station is ever overfull"
   pub of-nest-of-two :
       (table scratch table′ scratch′ : List ℕ) (verdict : Verdict)
-      → PlanCall (nestCell 8 2) nestRecipe table scratch table′ scratch′ verdict
+      → PlanCall (nestCell 8 2) (nestRecipe ∷ []) table scratch table′ scratch′ verdict
       → 72 ≤ length table
       → 9 ≤ length scratch
       → Nested table′ verdict
   -- with limit 1 it gives 15
   pub of-nest-of-one :
       (table scratch table′ scratch′ : List ℕ) (verdict : Verdict)
-      → PlanCall (nestCell 8 1) nestRecipe table scratch table′ scratch′ verdict
+      → PlanCall (nestCell 8 1) (nestRecipe ∷ []) table scratch table′ scratch′ verdict
       → 72 ≤ length table
       → 9 ≤ length scratch
       → verdict ≡ Refused NotRealisable 0

@@ -8,6 +8,7 @@ use native.Mathlib.Omega.{arith}
 use lib.ListN.{getD}
 use lib.Dec.{eqb}
 use borrow.Author.Tests.{eqb-true, eqb-false, not-true}
+use Rattle.refusals.specs.declared.Verdict.the-variants.{Accepted}
 use Rattle.refusals.specs.Search.{allBelow}
 use Rattle.refusals.proofs.EveryBelow.{all-at}
 use Rattle.refusals.proofs.TabulatedLists.{length-tabulate}
@@ -16,9 +17,10 @@ use Rattle.cell.specs.declared.Cell.{Cell}
 use Rattle.recipe.specs.declared.Recipe.{Recipe}
 use Rattle.positions.specs.declared.Configuration.{Configuration}
 use Rattle.positions.specs.declared.Sizes.{Sizes}
+use Rattle.positions.specs.Sizes.{sizesOf}
+use Rattle.positions.specs.Rules.{checkSizes}
 use Rattle.positions.specs.Position.{pointAt, configurationAt, entryOf}
 use Rattle.positions.proofs.PositionNumbers.{position-fits, number-back}
-use Rattle.positions.specs.Checked.{Checked}
 use Rattle.positions.proofs.CheckedSizes.{checked-fits}
 use Rattle.steps.specs.Lines.{linesOf, kindOf}
 use Rattle.steps.specs.Entry.{entryKind, letter, isFormed}
@@ -26,10 +28,13 @@ use Rattle.steps.specs.Effect.{opens}
 use Rattle.steps.proofs.OpenByKind.{opens-joint}
 use Rattle.steps.proofs.Effects.{formed-kind}
 use Rattle.steps.proofs.EntryForms.{carryEntry, formed-internal, formed-transfer, formed-carry}
+use Rattle.chapters.specs.Joined.{chapterAt, Point, pointIn}
+use Rattle.chapters.specs.Sizes.{Measures, sizesIn, entryIn}
 use Rattle.run.specs.Book.{asks, opened}
-use Rattle.simulation.specs.Simulation.{Position, Greatest}
+use Rattle.simulation.specs.Simulation.{Position, PositionIn, Greatest}
 use Rattle.simulation.specs.Plan.{Planned}
 use Rattle.simulation.proofs.BookBySingles.{book-is}
+use Rattle.worked.proofs.SingleRecipes.{single-entry, single-position, single-checked, all-checked}
 use Rattle.worked.proofs.BenchPlan.{plan-opens}
 
 -- if the entry is open, it is x
@@ -88,10 +93,13 @@ module _ (c : Cell) (r : Recipe) (p : ℕ) (a : Configuration) (e x : ℕ) (one 
 
 -- position m is in the greatest simulation, and has one open move: so every plan has it there
 module _
-    (c : Cell) (r : Recipe) (z : Sizes) (K : Checked c r z)
-    (before table : List ℕ) (refused : Bool) (plan : Planned c r z before table refused)
-    (m : ℕ) (low : m < z .positions)
+    (c : Cell) (r : Recipe) (sized : checkSizes c r ≡ Accepted)
+    (before table : List ℕ) (refused : Bool) (plan : Planned c (r ∷ []) (sizesIn c (r ∷ [])) before table refused)
+    (m : ℕ) (low : m < sizesOf c r .positions)
   where
+    abbrev z : Sizes
+    z = sizesOf c r
+
     abbrev point : ℕ
     point = pointAt z m
 
@@ -100,25 +108,30 @@ module _
 
     here : Position z point configuration
     unfolding configurationAt
-    here = record { in-range = position-fits z (checked-fits c r z K) m low; six = length-tabulate _ 6; eight = length-tabulate _ 8 }
+    here = record { in-range = position-fits z (checked-fits c r z (single-checked c r sized)) m low; six = length-tabulate _ 6; eight = length-tabulate _ 8 }
 
     entry-at : entryOf z table point configuration ≡ getD table m 0
     unfolding entryOf
-    entry-at = ap (λ (k : ℕ). getD table k 0) (number-back z (checked-fits c r z K) m low)
+    entry-at = ap (λ (k : ℕ). getD table k 0) (number-back z (checked-fits c r z (single-checked c r sized)) m low)
 
     forced :
         (x : ℕ)
-        → Greatest c r z point configuration
+        → Greatest c (r ∷ []) (sizesIn c (r ∷ [])) (pointIn 0 point) configuration
         → (kindOf r point ≡ 0 → ⊥)
         → linesOf r point ≡ 1
         → soleAt c r point configuration x ≡ true
         → getD table m 0 ≡ x
-    unfolding opened
+    unfolding opened chapterAt
     forced x held some one sole =
-        let alive : entryOf z table point configuration ≡ 0 → ⊥ = λ zero. plan .zero-lacks point configuration here zero held in
+        let zs : Measures = sizesIn c (r ∷ []) in
+        let at : Point = pointIn 0 point in
+        let there : PositionIn (r ∷ []) zs at configuration = single-position c r point configuration here in
+        let alive : entryIn zs table at configuration ≡ 0 → ⊥ = λ zero. plan .zero-lacks at configuration there zero held in
+        let open-there : opens c r point configuration (entryIn zs table at configuration) ≡ true =
+        sym (book-is c (r ∷ []) zs (all-checked c r sized) .open-is (opened at configuration) (entryIn zs table at configuration))
+        ∙ plan-opens c (r ∷ []) zs table at configuration (plan .promises at configuration there alive (asks ∷ [])) in
         let able : opens c r point configuration (entryOf z table point configuration) ≡ true =
-        sym (book-is c r z K .open-is (opened point configuration) (entryOf z table point configuration))
-        ∙ plan-opens c r z table point configuration (plan .promises point configuration here alive (asks ∷ [])) in
+        subst (λ (e : ℕ). opens c r point configuration e ≡ true) (single-entry c r table point configuration) open-there in
         sym entry-at ∙ sole-open c r point configuration (entryOf z table point configuration) x one some sole able
 
 -- a do or test of one line at which the table shown has the entry x, and no other move is open
@@ -130,17 +143,22 @@ soleIn c r z shown m x =
 
 -- where the greatest simulation holds each position at which the table shown has an entry, every plan has this one
 module _
-    (c : Cell) (r : Recipe) (z : Sizes) (K : Checked c r z)
-    (before table : List ℕ) (refused : Bool) (plan : Planned c r z before table refused)
+    (c : Cell) (r : Recipe) (sized : checkSizes c r ≡ Accepted)
+    (before table : List ℕ) (refused : Bool) (plan : Planned c (r ∷ []) (sizesIn c (r ∷ [])) before table refused)
     (shown : List ℕ)
-    (holds : (p : ℕ) (a : Configuration) → Position z p a → (entryOf z shown p a ≡ 0 → ⊥) → Greatest c r z p a)
+    (holds :
+    (p : ℕ) (a : Configuration)
+    → Position (sizesOf c r) p a
+    → (entryOf (sizesOf c r) shown p a ≡ 0 → ⊥)
+    → Greatest c (r ∷ []) (sizesIn c (r ∷ [])) (pointIn 0 p) a)
   where
-    pub sole-planned : (m x : ℕ) → m < z .positions → 0 < x → soleIn c r z shown m x ≡ true → getD table m 0 ≡ x
+    pub sole-planned : (m x : ℕ) → m < sizesOf c r .positions → 0 < x → soleIn c r (sizesOf c r) shown m x ≡ true → getD table m 0 ≡ x
     unfolding soleIn
     sole-planned m x low some test =
+        let z = sizesOf c r in
         let is : entryOf z shown (pointAt z m) (configurationAt z m) ≡ x = eqb-true _ x (search (and-left, and-right)) in
-        forced c r z K before table refused plan m low x
-        (holds _ _ (here c r z K before table refused plan m low) (λ zero. omega (arith, is, zero)))
+        forced c r sized before table refused plan m low x
+        (holds _ _ (here c r sized before table refused plan m low) (λ zero. omega (arith, is, zero)))
         (eqb-false _ 0 (not-true _ (and-left _ _ test)))
         (eqb-true _ 1 (search (and-left, and-right)))
         (search (and-left, and-right))

@@ -2,7 +2,7 @@
 -- call's contract, whatever table and scratch were lent. Assumes nothing.
 use mathlib.Core.Path.{_≡_, refl}
 use mathlib.Core.Bool.{Bool, true}
-use mathlib.Core.List.{List}
+use mathlib.Core.List.{List, [], _∷_}
 use Prim.Native.Nat.{ℕ, _<_, _≤_}
 use native.Mathlib.Omega.{arith}
 use lib.ListN.{length, getD}
@@ -26,9 +26,10 @@ use Rattle.steps.specs.Effect.{taken, effect, isMove, opens, leaves, makes, lea
 use Rattle.steps.proofs.EntryForms.{carryEntry}
 use Rattle.simulation.specs.Plan.{Planned}
 use Rattle.planner.specs.Call.{checkPlan, PlanCall}
-use Rattle.worked.specs.Moves.{filled, benchCell, benchRecipe, benchSizes, benchEntry, benchTable}
+use Rattle.worked.specs.Moves.{filled, benchCell, benchRecipe, benchSizes, benchMeasures, benchEntry, benchTable, benchRanks}
 use Rattle.worked.specs.Plans.{deadRecipe, endRecipe}
-use Rattle.worked.proofs.BenchPlan.{computed, bench-checked, bench-planned, entry-one, entry-last, dead-recipe, one-end}
+use Rattle.worked.proofs.BenchPlan.{computed, bench-planned, entry-one, entry-last, dead-recipe, one-end}
+use Rattle.worked.proofs.Certificates.{entry-greatest}
 use Rattle.worked.proofs.LedRecipes.{led-recipes}
 use Rattle.worked.proofs.LentLengths.{check-passes, short-refused, short-untouched, call-accepts, call-refuses}
 use Rattle.worked.proofs.OneMoveOpen.{isSole, soleAt, soleIn, sole-planned}
@@ -80,7 +81,7 @@ pub record Bench (table : List ℕ) (verdict : Verdict) : Type 0 where
   pub entry-1 : getD table 1 0 ≡ 0
 
 module _ (table scratch table′ scratch′ : List ℕ) (verdict : Verdict) where
-  module _ (call : PlanCall benchCell benchRecipe table scratch table′ scratch′ verdict) (long : 90 ≤ length table) where
+  module _ (call : PlanCall benchCell (benchRecipe ∷ []) table scratch table′ scratch′ verdict) (long : 90 ≤ length table) where
     fits : benchSizes .positions ≤ length table
     fits = omega (arith, computed .positions)
 
@@ -96,15 +97,16 @@ module _ (table scratch table′ scratch′ : List ℕ) (verdict : Verdict) wher
 
     -- "and 12 pass"
     module _ (wide : 12 ≤ length scratch) where
-      passes : checkPlan benchCell benchRecipe (length table) (length scratch) ≡ Accepted
+      passes : checkPlan benchCell (benchRecipe ∷ []) (length table) (length scratch) ≡ Accepted
       passes = check-passes benchCell benchRecipe (computed .sized) (led-recipes .bench) (length table) (length scratch) fits (omega (arith, computed .positions))
 
-      plan : Planned benchCell benchRecipe benchSizes table table′ (call .refused)
+      plan : Planned benchCell (benchRecipe ∷ []) benchMeasures table table′ (call .refused)
       plan = call .planned passes
 
       move : (m x : ℕ) → m < 90 → 0 < x → sole m x ≡ true → getD table′ m 0 ≡ x
       move m x low some test =
-          sole-planned benchCell benchRecipe benchSizes bench-checked table table′ (call .refused) plan benchTable (bench-planned .entry-holds) m x
+          sole-planned benchCell benchRecipe (computed .sized) table table′ (call .refused) plan benchTable
+          (entry-greatest benchCell benchRecipe (computed .sized) benchTable benchRanks (computed .closed)) m x
           (omega (arith, computed .positions)) some test
 
       pub bench-called : Bench table′ verdict
@@ -132,7 +134,7 @@ module _ (table scratch table′ scratch′ : List ℕ) (verdict : Verdict) wher
 
   -- ‡ "point 3 as `3,2,2,1,0,2,2` gives 15"
   pub dead-called :
-      PlanCall benchCell deadRecipe table scratch table′ scratch′ verdict
+      PlanCall benchCell (deadRecipe ∷ []) table scratch table′ scratch′ verdict
       → 90 ≤ length table
       → 12 ≤ length scratch
       → verdict ≡ Refused NotRealisable 0
@@ -142,7 +144,7 @@ module _ (table scratch table′ scratch′ : List ℕ) (verdict : Verdict) wher
 
   -- ‡ "a recipe of one end is accepted"
   pub end-called :
-      PlanCall benchCell endRecipe table scratch table′ scratch′ verdict
+      PlanCall benchCell (endRecipe ∷ []) table scratch table′ scratch′ verdict
       → 6 ≤ length table
       → 1 ≤ length scratch
       → verdict ≡ Accepted

@@ -1,6 +1,7 @@
 -- "a least set, which loses rework loops": the least set lacks the bench example's start, which the greatest simulation holds.
 -- Assumes nothing.
 use mathlib.Core.Path.{_≡_, refl, sym, ap, _∙_}
+use mathlib.Core.List.{[], _∷_}
 use Prim.Native.Nat.{ℕ}
 use native.Mathlib.Omega.{arith}
 use Rattle.refusals.specs.Search.{firstBelow, isOf}
@@ -47,7 +48,7 @@ loop-lacks {p} (goes-on step lines some silently carrying then else) (taken-out 
 
 pub record Rework : Type 0 where
   pub least-lacks : Least benchCell benchRecipe 0 start → ⊥
-  pub greatest-holds : Realisable benchCell benchRecipe
+  pub greatest-holds : Realisable benchCell (benchRecipe ∷ [])
 
 pub rework : Rework
 rework = record { least-lacks = λ member. loop-lacks member (made refl); greatest-holds = bench-planned .accepted-holds refl }

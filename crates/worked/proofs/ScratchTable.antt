@@ -1,7 +1,7 @@
 -- The worked examples of request 3, "Planner on the cell's own box": what plan and install answer for a scratch of so many bytes, beyond
 -- what the other tables say of it. Assumes nothing.
 use mathlib.Core.Path.{_≡_}
-use mathlib.Core.List.{List}
+use mathlib.Core.List.{List, [], _∷_}
 use Prim.Native.Nat.{ℕ, _≤_}
 use native.Mathlib.Omega.{arith}
 use lib.ListN.{length}
@@ -22,7 +22,7 @@ pub record ScratchTable : Type 0 where
   -- "In the bench example 11 bytes now give 14" (row of-short-scratch of the ‡ table), which changes nothing; 12 pass (of-bench-calls)
   pub of-11-bytes :
       (table scratch table′ scratch′ : List ℕ) (verdict : Verdict)
-      → PlanCall benchCell benchRecipe table scratch table′ scratch′ verdict
+      → PlanCall benchCell (benchRecipe ∷ []) table scratch table′ scratch′ verdict
       → 90 ≤ length table
       → length scratch ≤ 11
       → (table′ ≡ table) × (scratch′ ≡ scratch)
@@ -34,8 +34,8 @@ pub record ScratchTable : Type 0 where
       → length scratch ≤ 11
       → Refuses TooShort table scratch list table′ scratch′ list′ answer
   -- "a scratch of M/8 bytes", where 8 divides M: the greatest M needs 131072
-  pub of-most-positions : checkPlan (limitCell 3) limitRecipe 1048576 131072 ≡ Accepted
-  pub of-one-less : checkPlan (limitCell 3) limitRecipe 1048576 131071 ≡ Refused TooShort 0
+  pub of-most-positions : checkPlan (limitCell 3) (limitRecipe ∷ []) 1048576 131072 ≡ Accepted
+  pub of-one-less : checkPlan (limitCell 3) (limitRecipe ∷ []) 1048576 131071 ≡ Refused TooShort 0
 
 pub scratch-table : ScratchTable
 scratch-table =

@@ -22,13 +22,17 @@ use Rattle.steps.specs.Joint.{mayDo, acts, actsOn, howMany, portFits, isStep, i
 use Rattle.steps.specs.Carry.{serves, matches, standsAt, present, free, suits, carries, putThere, placed, partsMoved, afterCarry, isFree}
 use Rattle.steps.specs.Entry.{entryKind, letter, unused, linesUsed, carryLetters, lettersUsed, namesGate, isLine, isFormed, only, stepOf, mayBeTaken}
 use Rattle.steps.specs.Effect.{taken, effect, isMove, opens, leaves, makes, leadsTo}
+use Rattle.chapters.specs.Joined.{chapterAt, pointIn, isEarlier, landing, thenAt, elseAt}
+use Rattle.chapters.specs.Sizes as chapters
+use Rattle.chapters.specs.Sizes.{Measures, pointsAt, sizesIn, begins, positionIn, entryIn}
 use Rattle.run.specs.Book.{Call, reports, opened, byTable, atEnd, isOpen, refusalOf, setTo, movedTo, lineFollowed, configurationAfter, pointAfter, made}
 use Rattle.run.specs.Book.{isAccepted, turned, noted, moments}
 use Rattle.run.specs.Promises.{fewSilent}
-use Rattle.simulation.specs.Simulation.{Position}
+use Rattle.simulation.specs.Simulation.{PositionIn}
 use Rattle.simulation.specs.Plan.{Planned}
 use Rattle.worked.specs.Moves.{filled}
 use Rattle.worked.specs.Worthless.{laneCell, laneRecipe, shuttleTable, madePart}
+use Rattle.worked.proofs.SingleRecipes.{single-entry, single-position}
 
 -- as many reports as there are configurations, J × W = 1 × 3
 abbrev shuttleCalls : List Call
@@ -37,6 +41,9 @@ shuttleCalls = reports 0 ∷ reports 0 ∷ reports 0 ∷ []
 abbrev laneSizes : Sizes
 laneSizes = sizesOf laneCell laneRecipe
 
+abbrev laneMeasures : Measures
+laneMeasures = sizesIn laneCell (laneRecipe ∷ [])
+
 pub record Computed : Type 0 where
   -- the rules before 15 pass
   pub sized : checkSizes laneCell laneRecipe ≡ Accepted
@@ -44,8 +51,8 @@ pub record Computed : Type 0 where
   six : length (madePart .state) ≡ 6
   eight : length (madePart .place) ≡ 8
   some : entryOf laneSizes shuttleTable 1 madePart ≡ 33554561
-  many : every (fewSilent laneCell laneRecipe laneSizes)
-      (moments laneCell laneRecipe (byTable laneSizes shuttleTable) [] (opened 1 madePart) shuttleCalls) ≡ false
+  many : every (fewSilent laneCell (laneRecipe ∷ []) laneMeasures)
+      (moments laneCell (laneRecipe ∷ []) (byTable laneMeasures shuttleTable) [] (opened (pointIn 0 1) madePart) shuttleCalls) ≡ false
 
 pub computed : Computed
 unfolding isOf firstBelow anyBelow allBelow countBelow greatestBelow tabulate firstRefusal firstLine noLine rule3 cell.leavesRange
@@ -55,7 +62,7 @@ unfolding isOf firstBelow anyBelow allBelow countBelow greatestBelow tabulate fi
     recipe.common recipe.sharesPart recipe.rule11 recipe.pointCount recipe.leadsOut recipe.rule12 recipe.recipeRules sumBelow productBelow
     stateCount stateCounts partsIn partCount jointCount sizesFor stateNumber placeNumber positionOf recordRules rule13 checkSizes placeCount
     isPosition firstLineOf linesOf kindOf opened byTable atEnd isOpen refusalOf setTo movedTo lineFollowed configurationAfter pointAfter made isAccepted
-    turned noted moments every fewSilent entryOf filled laneCell laneRecipe shuttleTable madePart mayDo acts actsOn howMany portFits isStep
+    turned noted moments every fewSilent chapterAt isEarlier landing thenAt elseAt pointsAt chapters.partsIn sizesIn begins positionIn entryIn entryOf filled laneCell laneRecipe shuttleTable madePart mayDo acts actsOn howMany portFits isStep
     isSilentStep load keepsLimits noneOverfull gateAmong gateOf gated suits stateAfter receiver handed placeAfter after serves matches standsAt present free
     carries putThere placed partsMoved afterCarry entryKind letter unused linesUsed carryLetters lettersUsed namesGate isLine isFormed only stepOf mayBeTaken taken effect
     isMove opens leaves makes leadsTo cell.inRange cell.gap cell.hasNoLine recipe.inRange recipe.hasUnused farthest stateWeight stateFits
@@ -63,8 +70,10 @@ unfolding isOf firstBelow anyBelow allBelow countBelow greatestBelow tabulate fi
 computed = record { sized = refl; in-range = refl; six = refl; eight = refl; some = refl; many = refl }
 
 -- "shuttles a pallet for ever"
-pub shuttle-not : (before : List ℕ) (refused : Bool) → Planned laneCell laneRecipe laneSizes before shuttleTable refused → ⊥
+pub shuttle-not : (before : List ℕ) (refused : Bool) → Planned laneCell (laneRecipe ∷ []) laneMeasures before shuttleTable refused → ⊥
 shuttle-not before refused plan =
-    let there : Position laneSizes 1 madePart = record { in-range = computed .in-range; six = computed .six; eight = computed .eight } in
-    true≢false
-    (sym (plan .promises 1 madePart there (λ zero. omega (arith, computed .some, zero)) shuttleCalls .keeps .silent-few) ∙ computed .many)
+    let there : PositionIn (laneRecipe ∷ []) laneMeasures (pointIn 0 1) madePart =
+    single-position laneCell laneRecipe 1 madePart (record { in-range = computed .in-range; six = computed .six; eight = computed .eight }) in
+    let alive : entryIn laneMeasures shuttleTable (pointIn 0 1) madePart ≡ 0 → ⊥ =
+    λ zero. omega (arith, computed .some, sym (single-entry laneCell laneRecipe shuttleTable 1 madePart) ∙ zero) in
+    true≢false (sym (plan .promises (pointIn 0 1) madePart there alive shuttleCalls .keeps .silent-few) ∙ computed .many)

@@ -1,7 +1,7 @@
 -- What every plan and install call answers for a recipe with a point that nothing leads to: theorems over the calls' contracts,
 -- whatever was lent. Assumes nothing.
 use mathlib.Core.Path.{_≡_, refl, sym}
-use mathlib.Core.List.{List}
+use mathlib.Core.List.{List, [], _∷_}
 use Prim.Native.Nat.{ℕ, _<_}
 use native.Mathlib.Omega.{arith}
 use lib.ListN.{length}
@@ -16,7 +16,7 @@ use Rattle.positions.proofs.AcceptedRecords.{both-ok, records-ok}
 use Rattle.reached.specs.Reached.{Reached}
 use Rattle.reached.proofs.Chains.{one-unreached}
 use Rattle.planner.specs.Call.{PlanCall}
-use Rattle.planner.proofs.PlanAnswers.{unreached-checked}
+use Rattle.planner.proofs.OnePlan.{unreached-checked}
 use Rattle.planner.proofs.Demands as demands
 use Rattle.install.specs.declared.Listing.{Listing}
 use Rattle.install.specs.Call.{InstallCall}
@@ -30,7 +30,7 @@ use Rattle.worked.proofs.UnreachedRecipes.{computed, points}
 pub record Gets22 (c : Cell) (r : Recipe) : Type 0 where
   pub plan :
       (table scratch table′ scratch′ : List ℕ) (verdict : Verdict)
-      → PlanCall c r table scratch table′ scratch′ verdict
+      → PlanCall c (r ∷ []) table scratch table′ scratch′ verdict
       → (verdict ≡ Refused UnreachedPoint 0) × (table′ ≡ table) × (scratch′ ≡ scratch)
   pub install :
       (table scratch list table′ scratch′ list′ : List ℕ) (answer : Listing)

@@ -11,3 +11,6 @@ pub mod InstalledPlans
 pub mod Unreached
 pub mod Gated
 pub mod GatedPlans
+pub mod Chaptered
+pub mod ChapteredPlans
+pub mod OneRecipe

@@ -12,6 +12,7 @@ use Rattle.positions.specs.declared.Sizes.{Sizes}
 use Rattle.positions.specs.Sizes.{sizesOf}
 use Rattle.positions.specs.Position.{positionOf, pointAt, configurationAt}
 use Rattle.steps.specs.Effect.{opens, makes, leadsTo}
+use Rattle.chapters.specs.Sizes.{Measures, sizesIn}
 
 -- a field of a record's lines, filled with 0 to 64 lines
 unfoldable pub filled : List ℕ → List ℕ
@@ -45,6 +46,10 @@ benchRecipe =
 
 abbrev pub benchSizes : Sizes
 benchSizes = sizesOf benchCell benchRecipe
+
+-- and those that a call takes for it as the one chapter
+abbrev pub benchMeasures : Measures
+benchMeasures = sizesIn benchCell (benchRecipe ∷ [])
 
 -- the next position, from a position by an entry at an outcome; the position itself if the entry isn't a move open there
 unfoldable pub nextIn : Cell → Recipe → ℕ → ℕ → ℕ → ℕ

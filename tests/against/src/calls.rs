@@ -3,19 +3,21 @@
 
 use crate::{c, RunRecord};
 use independent::{
-    cell_of_bytes, check, install, plan, recipe_of_bytes, run_bytes, run_of_bytes, Run, RUN_BYTES,
+    cell_of_bytes, chapters_of_bytes, check, install, plan, recipe_of_bytes, run_bytes,
+    run_of_bytes, Run, RUN_BYTES,
 };
 
 /// How many bytes a line has in the list of an install call.
 pub const LISTED_BYTES: usize = 4;
 
-/// The seven calls as the C interface has them.
+/// The seven calls as the C interface has them. `recipes` are the records of all chapters, one after another;
+/// an install call takes one recipe alone.
 pub trait Calls {
-    /// The first refusal of the rules 3 to 13, or 0.
-    fn check(cell: &[u8], recipe: &[u8]) -> u32;
+    /// The first refusal of the rules before 14, or 0.
+    fn check(cell: &[u8], recipes: &[u8]) -> u32;
 
     /// The refusal, or 0; the table is filled if that is 0 or 15.
-    fn plan(cell: &[u8], recipe: &[u8], table: &mut [u32], scratch: &mut [u8]) -> u32;
+    fn plan(cell: &[u8], recipes: &[u8], table: &mut [u32], scratch: &mut [u8]) -> u32;
 
     /// Refusal × 2^32 + count; as many whole lines as fit are put into the list.
     fn install(
@@ -30,13 +32,13 @@ pub trait Calls {
     fn fresh(run: &mut [u8]) -> u32;
 
     /// Refusal × 2^32 + entry.
-    fn next_move(cell: &[u8], recipe: &[u8], table: &[u32], run: &[u8]) -> u64;
+    fn next_move(cell: &[u8], recipes: &[u8], table: &[u32], run: &[u8]) -> u64;
 
     /// The refusal, or 0 with the next run in the run's place.
-    fn report(cell: &[u8], recipe: &[u8], table: &[u32], run: &mut [u8], outcome: u8) -> u32;
+    fn report(cell: &[u8], recipes: &[u8], table: &[u32], run: &mut [u8], outcome: u8) -> u32;
 
     /// Refusal × 256 + place.
-    fn place(cell: &[u8], recipe: &[u8], run: &[u8], part: u8) -> u32;
+    fn place(cell: &[u8], recipes: &[u8], run: &[u8], part: u8) -> u32;
 }
 
 /// The library, called through its C interface.
@@ -46,7 +48,7 @@ impl Library {
     /// The second form of report: the refusal, or 0 with the next run in the record's own storage.
     pub fn report_record(
         cell: &[u8],
-        recipe: &[u8],
+        recipes: &[u8],
         table: &[u32],
         run: &mut RunRecord,
         outcome: u8,
@@ -56,8 +58,8 @@ impl Library {
             c::cellplan_report_record(
                 cell.as_ptr(),
                 cell.len(),
-                recipe.as_ptr(),
-                recipe.len(),
+                recipes.as_ptr(),
+                recipes.len(),
                 table.as_ptr(),
                 table.len(),
                 run,
@@ -70,17 +72,17 @@ impl Library {
 // SAFETY, for every call: the pointers and lengths are those of slices that outlive the call, and
 // those lent for writing overlap no other.
 impl Calls for Library {
-    fn check(cell: &[u8], recipe: &[u8]) -> u32 {
-        unsafe { c::cellplan_check(cell.as_ptr(), cell.len(), recipe.as_ptr(), recipe.len()) }
+    fn check(cell: &[u8], recipes: &[u8]) -> u32 {
+        unsafe { c::cellplan_check(cell.as_ptr(), cell.len(), recipes.as_ptr(), recipes.len()) }
     }
 
-    fn plan(cell: &[u8], recipe: &[u8], table: &mut [u32], scratch: &mut [u8]) -> u32 {
+    fn plan(cell: &[u8], recipes: &[u8], table: &mut [u32], scratch: &mut [u8]) -> u32 {
         unsafe {
             c::cellplan_plan(
                 cell.as_ptr(),
                 cell.len(),
-                recipe.as_ptr(),
-                recipe.len(),
+                recipes.as_ptr(),
+                recipes.len(),
                 table.as_mut_ptr(),
                 table.len(),
                 scratch.as_mut_ptr(),
@@ -116,13 +118,13 @@ impl Calls for Library {
         unsafe { c::cellplan_fresh(run.as_mut_ptr(), run.len()) }
     }
 
-    fn next_move(cell: &[u8], recipe: &[u8], table: &[u32], run: &[u8]) -> u64 {
+    fn next_move(cell: &[u8], recipes: &[u8], table: &[u32], run: &[u8]) -> u64 {
         unsafe {
             c::cellplan_next_move(
                 cell.as_ptr(),
                 cell.len(),
-                recipe.as_ptr(),
-                recipe.len(),
+                recipes.as_ptr(),
+                recipes.len(),
                 table.as_ptr(),
                 table.len(),
                 run.as_ptr(),
@@ -131,13 +133,13 @@ impl Calls for Library {
         }
     }
 
-    fn report(cell: &[u8], recipe: &[u8], table: &[u32], run: &mut [u8], outcome: u8) -> u32 {
+    fn report(cell: &[u8], recipes: &[u8], table: &[u32], run: &mut [u8], outcome: u8) -> u32 {
         unsafe {
             c::cellplan_report(
                 cell.as_ptr(),
                 cell.len(),
-                recipe.as_ptr(),
-                recipe.len(),
+                recipes.as_ptr(),
+                recipes.len(),
                 table.as_ptr(),
                 table.len(),
                 run.as_mut_ptr(),
@@ -147,13 +149,13 @@ impl Calls for Library {
         }
     }
 
-    fn place(cell: &[u8], recipe: &[u8], run: &[u8], part: u8) -> u32 {
+    fn place(cell: &[u8], recipes: &[u8], run: &[u8], part: u8) -> u32 {
         unsafe {
             c::cellplan_place(
                 cell.as_ptr(),
                 cell.len(),
-                recipe.as_ptr(),
-                recipe.len(),
+                recipes.as_ptr(),
+                recipes.len(),
                 run.as_ptr(),
                 run.len(),
                 part,
@@ -166,13 +168,13 @@ impl Calls for Library {
 pub struct Independent;
 
 impl Calls for Independent {
-    fn check(cell: &[u8], recipe: &[u8]) -> u32 {
-        check(&cell_of_bytes(cell), &recipe_of_bytes(recipe)).into()
+    fn check(cell: &[u8], recipes: &[u8]) -> u32 {
+        check(&cell_of_bytes(cell), &chapters_of_bytes(recipes)).into()
     }
 
-    fn plan(cell: &[u8], recipe: &[u8], table: &mut [u32], scratch: &mut [u8]) -> u32 {
-        let (cell, recipe) = (cell_of_bytes(cell), recipe_of_bytes(recipe));
-        plan(&cell, &recipe, table, scratch.len()).into()
+    fn plan(cell: &[u8], recipes: &[u8], table: &mut [u32], scratch: &mut [u8]) -> u32 {
+        let (cell, chapters) = (cell_of_bytes(cell), chapters_of_bytes(recipes));
+        plan(&cell, &chapters, table, scratch.len()).into()
     }
 
     fn install(
@@ -201,15 +203,15 @@ impl Calls for Independent {
         }
     }
 
-    fn next_move(cell: &[u8], recipe: &[u8], table: &[u32], run: &[u8]) -> u64 {
-        let (cell, recipe) = (cell_of_bytes(cell), recipe_of_bytes(recipe));
-        let answer = run_of_bytes(run).next_move(&cell, &recipe, table);
+    fn next_move(cell: &[u8], recipes: &[u8], table: &[u32], run: &[u8]) -> u64 {
+        let (cell, chapters) = (cell_of_bytes(cell), chapters_of_bytes(recipes));
+        let answer = run_of_bytes(run).next_move(&cell, &chapters, table);
         (u64::from(answer.refusal) << 32) + u64::from(answer.entry)
     }
 
-    fn report(cell: &[u8], recipe: &[u8], table: &[u32], run: &mut [u8], outcome: u8) -> u32 {
-        let (cell, recipe) = (cell_of_bytes(cell), recipe_of_bytes(recipe));
-        let answer = run_of_bytes(run).report(&cell, &recipe, table, outcome);
+    fn report(cell: &[u8], recipes: &[u8], table: &[u32], run: &mut [u8], outcome: u8) -> u32 {
+        let (cell, chapters) = (cell_of_bytes(cell), chapters_of_bytes(recipes));
+        let answer = run_of_bytes(run).report(&cell, &chapters, table, outcome);
         // A run that is too short is refused, and a refused report gives its own run.
         if let Some(run) = run.get_mut(..RUN_BYTES) {
             run.copy_from_slice(&run_bytes(&answer.run));
@@ -217,9 +219,9 @@ impl Calls for Independent {
         answer.refusal.into()
     }
 
-    fn place(cell: &[u8], recipe: &[u8], run: &[u8], part: u8) -> u32 {
-        let (cell, recipe) = (cell_of_bytes(cell), recipe_of_bytes(recipe));
-        let answer = run_of_bytes(run).place(&cell, &recipe, part);
+    fn place(cell: &[u8], recipes: &[u8], run: &[u8], part: u8) -> u32 {
+        let (cell, chapters) = (cell_of_bytes(cell), chapters_of_bytes(recipes));
+        let answer = run_of_bytes(run).place(&cell, &chapters, part);
         u32::from(answer.refusal) * 256 + u32::from(answer.place)
     }
 }

@@ -1,47 +1,101 @@
-//! Records with every kind of damage: numbers that break a rule, any bytes, and other lengths.
+//! Records with every kind of damage: numbers that break a rule, any bytes, other lengths, and other numbers
+//! of chapters.
 
-use crate::generate::{record, Generate, Rows};
+use crate::generate::{record, Generate, Rows, END};
 use crate::pairs::{limits_of, Pair};
 use crate::random::Random;
 use crate::{CellFile, Format, RecipeFile};
-use independent::{CELL_BYTES, MOST_LINES, MOST_RESOURCES};
+use independent::{CELL_BYTES, MOST_CHAPTERS, MOST_LINES, MOST_RESOURCES, RECIPE_BYTES};
 
-/// The records of a cell and a recipe.
+/// The records of a cell and of its chapters, these one after another.
 pub type Records = (Vec<u8>, Vec<u8>);
 
-/// The records of a pair: mostly as they are, else with some damage.
+/// The rules of a recipe that a change of numbers breaks.
+const RECIPE_RULES: [u8; 7] = [4, 7, 8, 9, 10, 11, 12];
+
+/// The records of a pair: mostly as they are, else with some damage to one of them or to several.
 pub fn seeded_records(pair: &Pair, random: &mut Random) -> Records {
-    let mut records = (pair.cell_bytes(), pair.recipe_bytes());
-    match random.below(20) {
+    let mut records = (pair.cell_bytes(), pair.recipes_bytes());
+    match random.below(22) {
         0 | 1 => records.0 = broken_cell(pair, random),
-        2 | 3 => records.1 = broken::<RecipeFile>(&pair.recipe, &[4, 7, 8, 9, 10, 11, 12], random),
+        2 | 3 => break_recipe(pair, &mut records.1, random),
         4 => {
             // Both at once, of which the cell's comes first.
             records.0 = broken_cell(pair, random);
-            records.1 = broken::<RecipeFile>(&pair.recipe, &[4, 7, 8, 9], random);
+            break_recipe(pair, &mut records.1, random);
         }
         5 => damage_bytes::<CellFile>(&mut records.0, random),
-        6 => damage_bytes::<RecipeFile>(&mut records.1, random),
+        6 => damage_bytes::<RecipeFile>(some_record(&mut records.1, random), random),
         7 => {
             damage_bytes::<CellFile>(&mut records.0, random);
-            damage_bytes::<RecipeFile>(&mut records.1, random);
+            damage_bytes::<RecipeFile>(some_record(&mut records.1, random), random);
         }
         8 => resize(&mut records.0, random),
-        9 => resize(&mut records.1, random),
+        9 => resize_recipes(&mut records.1, random),
         10 => break_limits(&mut records.0, random),
         11 => {
             // A cell with broken lines too, or beside a recipe that comes after it.
             if random.coin() {
                 records.0 = broken_cell(pair, random);
             } else {
-                records.1 = broken::<RecipeFile>(&pair.recipe, &[4, 7, 8, 9], random);
+                break_recipe(pair, &mut records.1, random);
             }
             break_limits(&mut records.0, random);
         }
         12 => change_limits(&mut records.0, random),
+        13 => damage_chapters(pair, &mut records, random),
         _ => {}
     }
     records
+}
+
+/// Some chapter's record.
+fn some_record<'a>(recipes: &'a mut [u8], random: &mut Random) -> &'a mut [u8] {
+    let chapters = recipes.len() / RECIPE_BYTES;
+    let chapter = random.below(chapters);
+    &mut recipes[chapter * RECIPE_BYTES..][..RECIPE_BYTES]
+}
+
+/// Puts a record whose numbers mostly break a rule in the place of some chapter's.
+fn break_recipe(pair: &Pair, recipes: &mut [u8], random: &mut Random) {
+    let chapter = random.below(pair.recipes.len());
+    let rows = &pair.recipes[chapter];
+    let record = broken::<RecipeFile>(rows, &RECIPE_RULES, random);
+    recipes[chapter * RECIPE_BYTES..][..RECIPE_BYTES].copy_from_slice(&record);
+}
+
+/// Changes the number of chapters, or makes one of them begin with an end; at times another record is broken too.
+fn damage_chapters(pair: &Pair, (cell, recipes): &mut Records, random: &mut Random) {
+    match random.below(8) {
+        0 => *cell = broken_cell(pair, random),
+        1 | 2 => break_recipe(pair, recipes, random),
+        _ => {}
+    }
+    match random.below(6) {
+        0 => recipes.truncate(random.below(RECIPE_BYTES)),
+        1 => *recipes = too_many_chapters(recipes, random),
+        2..=4 => end_at_once(some_record(recipes, random)),
+        _ => {
+            // One chapter more, and perhaps a rest.
+            let rest = random.choose(&[0, 0, 1, RECIPE_BYTES - 1]);
+            let first = recipes[..RECIPE_BYTES].to_vec();
+            recipes.extend(first.iter().cycle().take(RECIPE_BYTES + rest));
+        }
+    }
+}
+
+/// The chapters again and again, until there are more than there may be, and perhaps a rest.
+pub fn too_many_chapters(recipes: &[u8], random: &mut Random) -> Vec<u8> {
+    let chapters = MOST_CHAPTERS + random.choose(&[1, 1, 2, 8]);
+    let rest = random.choose(&[0, 0, 1, RECIPE_BYTES - 1]);
+    let bytes = recipes.iter().cycle().copied();
+    bytes.take(chapters * RECIPE_BYTES + rest).collect()
+}
+
+/// Makes of a record one of a single end.
+pub fn end_at_once(record: &mut [u8]) {
+    record[0] = 1;
+    record[1..8].copy_from_slice(&[0, END as u8, 0, 0, 0, 0, 0]);
 }
 
 /// The bench example's records with more and more damage; the cell may have other lines behind its own. Each
@@ -154,6 +208,16 @@ pub fn fill_past_lines<F: Format>(record: &mut [u8], random: &mut Random) {
 /// Where the lines of a record end that count.
 fn lines_end<F: Format>(record: &[u8]) -> usize {
     1 + usize::from(record[0]) * F::GREATEST.len()
+}
+
+/// Makes recipes too short for one, or for the last of them, or longer by a rest.
+fn resize_recipes(recipes: &mut Vec<u8>, random: &mut Random) {
+    match random.below(4) {
+        0 => recipes.truncate(random.below(recipes.len())),
+        1 => recipes.truncate(recipes.len() - 1),
+        2 => recipes.truncate(RECIPE_BYTES - 1),
+        _ => recipes.resize(recipes.len() + 1 + random.below(RECIPE_BYTES - 1), 0xa5),
+    }
 }
 
 /// Makes a record too short, or longer than it has to be.

@@ -19,9 +19,13 @@ impl Display for Installing {
     }
 }
 
-/// What the independent program answers.
+/// What the independent program answers. An install call takes one recipe, and what stands behind its record
+/// counts for nothing.
 pub fn owed(handed: &Handed) -> Install {
-    let (cell, recipe) = (cell_of_bytes(&handed.cell), recipe_of_bytes(&handed.recipe));
+    let (cell, recipe) = (
+        cell_of_bytes(&handed.cell),
+        recipe_of_bytes(&handed.recipes),
+    );
     install(&cell, &recipe, handed.entries, handed.scratch)
 }
 

@@ -20,8 +20,8 @@ pub use independent;
 
 use independent::{
     cell_bytes, cell_of_bytes, read_cell, read_limits, read_recipe, recipe_bytes, Refusal,
-    CELL_BYTES, CELL_NAMES, LIMITS_NAMES, MOST_RESOURCES, NO_LIMIT, RECIPE_BYTES, RECIPE_NAMES,
-    RUN_BYTES,
+    CELL_BYTES, CELL_NAMES, LIMITS_NAMES, MOST_CHAPTERS, MOST_RESOURCES, NO_LIMIT, RECIPE_BYTES,
+    RECIPE_NAMES, RUN_BYTES,
 };
 
 /// The refusal of a lent buffer that is too short.
@@ -29,6 +29,22 @@ pub const TOO_SHORT: u8 = 14;
 
 /// The refusal of a recipe with an unreached point, in calls that plan.
 pub const UNREACHED: u8 = 22;
+
+/// The refusal of too few or too many chapters, and of an earlier one whose first point is an end.
+pub const BAD_CHAPTERS: u8 = 24;
+
+/// One more than the greatest refusal.
+pub const REFUSALS: usize = 25;
+
+/// Why recipes that are refused with 24 are: 0 if there are none, 1 if there are too many, and 2 if an earlier
+/// one begins with an end.
+pub fn reason_for_24(recipes: &[u8]) -> usize {
+    match recipes.len() / RECIPE_BYTES {
+        0 => 0,
+        1..=MOST_CHAPTERS => 2,
+        _ => 1,
+    }
+}
 
 mod c {
     extern "C" {
@@ -56,14 +72,14 @@ mod c {
         pub fn cellplan_check(
             cell: *const u8,
             cell_length: usize,
-            recipe: *const u8,
-            recipe_length: usize,
+            recipes: *const u8,
+            recipes_length: usize,
         ) -> u32;
         pub fn cellplan_plan(
             cell: *const u8,
             cell_length: usize,
-            recipe: *const u8,
-            recipe_length: usize,
+            recipes: *const u8,
+            recipes_length: usize,
             table: *mut u32,
             table_entries: usize,
             scratch: *mut u8,
@@ -85,8 +101,8 @@ mod c {
         pub fn cellplan_next_move(
             cell: *const u8,
             cell_length: usize,
-            recipe: *const u8,
-            recipe_length: usize,
+            recipes: *const u8,
+            recipes_length: usize,
             table: *const u32,
             table_entries: usize,
             run: *const u8,
@@ -95,8 +111,8 @@ mod c {
         pub fn cellplan_report(
             cell: *const u8,
             cell_length: usize,
-            recipe: *const u8,
-            recipe_length: usize,
+            recipes: *const u8,
+            recipes_length: usize,
             table: *const u32,
             table_entries: usize,
             run: *mut u8,
@@ -106,8 +122,8 @@ mod c {
         pub fn cellplan_report_record(
             cell: *const u8,
             cell_length: usize,
-            recipe: *const u8,
-            recipe_length: usize,
+            recipes: *const u8,
+            recipes_length: usize,
             table: *const u32,
             table_entries: usize,
             run: *mut crate::RunRecord,
@@ -116,8 +132,8 @@ mod c {
         pub fn cellplan_place(
             cell: *const u8,
             cell_length: usize,
-            recipe: *const u8,
-            recipe_length: usize,
+            recipes: *const u8,
+            recipes_length: usize,
             run: *const u8,
             run_length: usize,
             part: u8,
@@ -132,6 +148,7 @@ pub struct RunRecord {
     pub point: u8,
     pub state: [u8; 6],
     pub place: [u8; 8],
+    pub chapter: u8,
 }
 
 impl RunRecord {
@@ -141,6 +158,7 @@ impl RunRecord {
             point: *run.first()?,
             state: run.get(1..7)?.try_into().ok()?,
             place: run.get(7..15)?.try_into().ok()?,
+            chapter: *run.get(15)?,
         })
     }
 
@@ -148,7 +166,8 @@ impl RunRecord {
     pub fn bytes(&self) -> [u8; RUN_BYTES] {
         let mut bytes = [self.point; RUN_BYTES];
         bytes[1..7].copy_from_slice(&self.state);
-        bytes[7..].copy_from_slice(&self.place);
+        bytes[7..15].copy_from_slice(&self.place);
+        bytes[15] = self.chapter;
         bytes
     }
 }

@@ -22,6 +22,10 @@ pub struct Seen {
     pub overfull: usize,
     /// Tests with a gate that were issued, by the form of the report and by the outcome.
     pub gates: [[usize; 2]; 2],
+    /// Reports after which the run was in the next chapter, by their form.
+    pub joints: [usize; 2],
+    /// Calls on a run at an end of an earlier chapter, by the refusal.
+    pub at_joints: [usize; 20],
 }
 
 impl Seen {
@@ -34,6 +38,8 @@ impl Seen {
             (&mut self.reports, &other.reports),
             (&mut self.issued, &other.issued),
             (self.gates.as_flattened_mut(), other.gates.as_flattened()),
+            (&mut self.joints, &other.joints),
+            (&mut self.at_joints, &other.at_joints),
         ] {
             all.iter_mut()
                 .zip(one)
@@ -62,7 +68,7 @@ fn first_run(book: &Book) -> [u8; RUN_BYTES] {
 /// What all calls of a list are handed.
 pub struct List<'a> {
     pub cell: &'a [u8],
-    pub recipe: &'a [u8],
+    pub recipes: &'a [u8],
     pub table: &'a [u32],
 }
 
@@ -71,7 +77,7 @@ impl List<'_> {
     fn assert_same<T: PartialEq + Debug>(&self, library: T, book: T, run: &[u8], outcome: u8) {
         let round = || Round {
             cell: self.cell.to_vec(),
-            recipe: self.recipe.to_vec(),
+            recipes: self.recipes.to_vec(),
             run: run.to_vec(),
             entries: self.table.len(),
             outcome,
@@ -87,62 +93,73 @@ impl List<'_> {
         let mut seen = Seen::default();
         for _ in 0..calls {
             seen.calls += 1;
-            let expected = book.next_move();
-            let (overfull, at_gate) = (book.is_overfull(), book.is_at_gate());
+            seen.overfull += usize::from(book.is_overfull());
             if random.below(3) == 0 {
-                let List {
-                    cell,
-                    recipe,
-                    table,
-                } = self;
-                let answer = Library::next_move(cell, recipe, table, &run);
-                let word = (u64::from(expected.refusal) << 32) + u64::from(expected.entry);
-                self.assert_same(answer, word, &run, 0);
-                seen.next_moves[usize::from(expected.refusal)] += 1;
-                seen.overfull += usize::from(overfull);
+                self.compare_next_move(&run, book, &mut seen);
                 continue;
             }
             let outcome = match random.below(8) {
                 0 => random.byte(),
                 _ => random.below(2) as u8,
             };
-            let refusal = self.compare_report(form, &mut run, book, outcome);
-            seen.reports[refusal as usize] += 1;
-            seen.issued[kind_of(expected.entry) as usize] += usize::from(refusal == 0);
-            seen.silent = seen.silent.max(book.silent_moves());
-            if at_gate && refusal == 0 {
-                seen.gates[form as usize][usize::from(outcome)] += 1;
-            }
-            seen.overfull += usize::from(overfull || book.is_overfull());
+            self.compare_report(form, &mut run, book, outcome, &mut seen);
         }
         seen
     }
 
-    /// Feeds one report to both. The refusal that both gave.
-    fn compare_report(&self, form: Form, run: &mut [u8], book: &mut Book, outcome: u8) -> u32 {
-        let before = run.to_vec();
+    /// Feeds a next-move call to both.
+    fn compare_next_move(&self, run: &[u8], book: &Book, seen: &mut Seen) {
+        let expected = book.next_move();
+        let answer = Library::next_move(self.cell, self.recipes, self.table, run);
+        let word = (u64::from(expected.refusal) << 32) + u64::from(expected.entry);
+        self.assert_same(answer, word, run, 0);
+        seen.next_moves[usize::from(expected.refusal)] += 1;
+        seen.at_joints[usize::from(expected.refusal)] += usize::from(book.is_at_joint());
+    }
+
+    /// Feeds a report to both.
+    fn compare_report(
+        &self,
+        form: Form,
+        run: &mut [u8],
+        book: &mut Book,
+        outcome: u8,
+        seen: &mut Seen,
+    ) {
+        let (before, was) = (run.to_vec(), book.run());
+        let (at_gate, at_joint) = (book.is_at_gate(), book.is_at_joint());
+        let (overfull, entry) = (book.is_overfull(), book.next_move().entry);
         let refusal = self.report(form, run, outcome);
         let expected = book.report(outcome);
         let left = run_bytes(&expected.run);
-        let expected = (expected.refusal.into(), &left[..]);
-        self.assert_same((refusal, &run[..]), expected, &before, outcome);
-        refusal
+        let owed = (expected.refusal.into(), &left[..]);
+        self.assert_same((refusal, &run[..]), owed, &before, outcome);
+
+        seen.reports[refusal as usize] += 1;
+        seen.at_joints[refusal as usize] += usize::from(at_joint);
+        seen.overfull += usize::from(!overfull && book.is_overfull());
+        seen.silent = seen.silent.max(book.silent_moves());
+        if refusal == 0 {
+            seen.issued[kind_of(entry) as usize] += 1;
+            seen.gates[form as usize][usize::from(outcome)] += usize::from(at_gate);
+            seen.joints[form as usize] += usize::from(expected.run.chapter > was.chapter);
+        }
     }
 
     /// The library's report, whose next run takes the place of the run.
     fn report(&self, form: Form, run: &mut [u8], outcome: u8) -> u32 {
         let List {
             cell,
-            recipe,
+            recipes,
             table,
         } = self;
         match (form, RunRecord::of(run)) {
             (Form::Record, Some(mut record)) => {
-                let refusal = Library::report_record(cell, recipe, table, &mut record, outcome);
+                let refusal = Library::report_record(cell, recipes, table, &mut record, outcome);
                 run.copy_from_slice(&record.bytes());
                 refusal
             }
-            _ => Library::report(cell, recipe, table, run, outcome),
+            _ => Library::report(cell, recipes, table, run, outcome),
         }
     }
 }

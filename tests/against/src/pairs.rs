@@ -1,14 +1,15 @@
-//! Cells and recipes that fit each other, so that moves of every kind are open in them; and runs and
-//! entries to try on them.
+//! Cells and recipes that fit each other, so that moves of every kind are open in them, in one chapter and in
+//! several; and runs and entries to try on them.
 
 use crate::generate::{self, Rows, DO, END, IN, INTERNAL, OPERATION, OUT, TEST};
 use crate::random::Random;
 use crate::{gates, points};
 use crate::{CellFile, RecipeFile};
 use independent::{
-    carry_of, cell_bytes, cell_of_bytes, check_cell, entry_of, is_open, kind_of, letters_of,
-    likely_pair, limited_pair, realisable_by_single_moves, recipe_bytes, recipe_of_bytes, Cell,
-    Configuration, Recipe, Run, Sizes, CELL_BYTES, MOST_RESOURCES, NO_LIMIT,
+    carry_of, cell_bytes, cell_of_bytes, chapters_of_bytes, check_cell, entry_of, kind_of,
+    letters_of, likely_chapters, likely_pair, limited_chapters, limited_pair, recipe_bytes,
+    stored_table, Cell, Configuration, Joined, Recipe, Run, Sizes, CELL_BYTES, MOST_CHAPTERS,
+    MOST_RESOURCES, NO_LIMIT,
 };
 use independent::{CARRY, INTERNAL as INTERNAL_MOVE, STAY, TRANSFER};
 
@@ -29,32 +30,38 @@ pub const THREE_GIVEN: [&str; 4] = [
 pub const PASTED_END: &str = "5,0,0,0,0,0,0\n";
 pub const PASTED_LOOP: &str = "5,1,1,0,1,6,0\n6,1,3,1,0,5,0\n";
 
-/// The value lines of a cell, its limits, and the value lines of a recipe.
+/// The value lines of a cell, its limits, and the value lines of a recipe, chapter by chapter.
 #[derive(Clone)]
 pub struct Pair {
     pub cell: Rows,
     pub limits: [u8; MOST_RESOURCES],
-    pub recipe: Rows,
+    pub recipes: Vec<Rows>,
 }
 
 impl Pair {
-    /// The pair with these value lines, and these limits at its first resources.
+    /// The pair with these value lines in one chapter, and these limits at its first resources.
     pub fn of_lines(cell: &[&str], limits: &[u8], recipe: &[&str]) -> Pair {
+        Pair::of_chapters(cell, limits, &[recipe])
+    }
+
+    /// The same in several chapters.
+    pub fn of_chapters(cell: &[&str], limits: &[u8], chapters: &[&[&str]]) -> Pair {
         let mut pair = Pair {
             cell: rows_of(cell),
             limits: NO_LIMITS,
-            recipe: rows_of(recipe),
+            recipes: chapters.iter().map(|lines| rows_of(lines)).collect(),
         };
         pair.limits[..limits.len()].copy_from_slice(limits);
         pair
     }
 
-    /// The lines of two records.
-    pub fn of(cell: &Cell, recipe: &Recipe) -> Pair {
+    /// The lines of records.
+    pub fn of(cell: &Cell, chapters: &[Recipe]) -> Pair {
+        let rows = |recipe: &Recipe| generate::rows::<RecipeFile>(&recipe_bytes(recipe));
         Pair {
             cell: generate::rows::<CellFile>(&cell_bytes(cell)),
             limits: cell.limits,
-            recipe: generate::rows::<RecipeFile>(&recipe_bytes(recipe)),
+            recipes: chapters.iter().map(rows).collect(),
         }
     }
 
@@ -64,14 +71,30 @@ impl Pair {
         record
     }
 
-    pub fn recipe_bytes(&self) -> Vec<u8> {
-        generate::record::<RecipeFile>(&self.recipe)
+    /// The records of all chapters, one after another.
+    pub fn recipes_bytes(&self) -> Vec<u8> {
+        let records = self.recipes.iter();
+        records
+            .flat_map(|rows| generate::record::<RecipeFile>(rows))
+            .collect()
     }
 
-    /// The records of both.
-    pub fn records(&self) -> (Cell, Recipe) {
-        let (cell, recipe) = (self.cell_bytes(), self.recipe_bytes());
-        (cell_of_bytes(&cell), recipe_of_bytes(&recipe))
+    /// The records of the cell and of its chapters.
+    pub fn records(&self) -> (Cell, Vec<Recipe>) {
+        let (cell, recipes) = (self.cell_bytes(), self.recipes_bytes());
+        (cell_of_bytes(&cell), chapters_of_bytes(&recipes))
+    }
+
+    /// The records of the cell and of the first chapter, where that is all that there is.
+    pub fn single(&self) -> (Cell, Recipe) {
+        let (cell, mut chapters) = self.records();
+        (cell, chapters.remove(0))
+    }
+
+    /// Whether a pair that passes the rules before 14 can be built, unreached points or not.
+    pub fn is_realisable(&self) -> bool {
+        let (cell, chapters) = self.records();
+        stored_table(&cell, &Joined::of(&cell, &chapters))[0] != 0
     }
 
     /// Wants an operation at point 0 that the cell hasn't, unless the recipe ends there. Whether the recipe
@@ -81,12 +104,11 @@ impl Pair {
         let Some(unknown) = (0..64).find(is_unknown) else {
             return false;
         };
-        let first = self.recipe.iter_mut();
+        let first = self.recipes[0].iter_mut();
         first
             .filter(|row| row[0] == 0 && row[1] != END)
             .for_each(|row| row[2] = unknown);
-        let (cell, recipe) = self.records();
-        !realisable_by_single_moves(&cell, &recipe)
+        !self.is_realisable()
     }
 }
 
@@ -116,6 +138,7 @@ pub fn limits_of(record: &mut [u8]) -> &mut [u8] {
 }
 
 /// How great a pair may become.
+#[derive(Clone)]
 struct Shape {
     states: Vec<u32>,
     parts: u32,
@@ -137,6 +160,17 @@ impl Shape {
             shape.shrink(random);
         }
         shape
+    }
+
+    /// The same, half of the time with fewer points, or with fewer parts.
+    fn smaller(&self, random: &mut Random) -> Shape {
+        let mut smaller = self.clone();
+        match random.below(4) {
+            0 => smaller.points = 1 + random.number(self.points),
+            1 => smaller.parts = 1 + random.number(self.parts),
+            _ => {}
+        }
+        smaller
     }
 
     fn positions(&self) -> u64 {
@@ -161,18 +195,53 @@ impl Shape {
 /// operations and the cell few ports, so that much of it fits together. Two cells in three have limits, more
 /// than a third have gates, and about one recipe in ten has unreached points.
 pub fn good_pair(most_positions: u64, random: &mut Random) -> Pair {
+    good_chapters(most_positions, 1, random)
+}
+
+/// The same with so many chapters, each of at most this many positions. One of them in ten has unreached
+/// points.
+pub fn good_chapters(most_positions: u64, chapters: usize, random: &mut Random) -> Pair {
     let shape = Shape::new(most_positions, random);
     let operations: Vec<u32> = (0..1 + random.below(3))
         .map(|_| random.number(64))
         .collect();
-    Pair {
+    let mut pair = Pair {
         cell: cell_rows(&shape, &operations, random),
         limits: match random.below(3) {
             0 => NO_LIMITS,
             _ => some_limits(shape.states.len(), random),
         },
-        recipe: recipe_rows(&shape, &operations, random),
+        recipes: vec![],
+    };
+    while pair.recipes.len() < chapters {
+        let is_last = pair.recipes.len() + 1 == chapters;
+        let shape = match chapters {
+            1 => shape.clone(),
+            _ => shape.smaller(random),
+        };
+        let recipe = recipe_rows(&shape, &operations, random);
+        if is_last || recipe[0][1] != END {
+            pair.recipes.push(recipe);
+        }
     }
+    pair
+}
+
+/// How many chapters: two or more, and at times as many as there may be.
+pub fn several(random: &mut Random) -> usize {
+    random.choose(&[2, 2, 2, 3, 3, 4, 5, 6, 7, MOST_CHAPTERS, MOST_CHAPTERS])
+}
+
+/// Chapters over a cell, each of at most this many positions, of which many are realisable. Every other cell has
+/// limits, more than a third have gates, and about one set of chapters in ten has unreached points.
+pub fn either_chapters(
+    n: usize,
+    most_positions: u64,
+    chapters: usize,
+    source: &mut independent::Random,
+) -> (Cell, Vec<Recipe>) {
+    let generate = [likely_chapters, limited_chapters][n % 2];
+    generate(most_positions, chapters, source)
 }
 
 /// A cell and a recipe of at most this many positions, many of which are realisable. Every other pair has
@@ -209,7 +278,7 @@ pub fn full_pair() -> Pair {
     Pair {
         cell: (0..64).map(cell).collect(),
         limits: NO_LIMITS,
-        recipe: (0..64).map(recipe).collect(),
+        recipes: vec![(0..64).map(recipe).collect()],
     }
 }
 
@@ -328,8 +397,8 @@ fn push_do(
     }
 }
 
-/// Any run in range.
-pub fn any_run(sizes: &Sizes, random: &mut Random) -> Run {
+/// Any configuration in range.
+fn any_configuration(sizes: &Sizes, random: &mut Random) -> Configuration {
     let mut configuration = Configuration::START;
     for (state, count) in configuration.states.iter_mut().zip(sizes.states) {
         if count > 0 {
@@ -339,9 +408,18 @@ pub fn any_run(sizes: &Sizes, random: &mut Random) -> Run {
     for place in &mut configuration.places[..sizes.parts] {
         *place = random.below(sizes.resources + 1) as u8;
     }
+    configuration
+}
+
+/// Any run in range.
+pub fn any_run(joined: &Joined, random: &mut Random) -> Run {
+    let configuration = any_configuration(&joined.sizes, random);
+    let number = random.below(joined.sizes.points as usize) as u8;
+    let (chapter, point) = joined.chapter_and_point(number);
     Run {
-        point: random.below(sizes.points as usize) as u8,
+        point,
         configuration,
+        chapter,
     }
 }
 
@@ -355,12 +433,12 @@ fn some(count: u8, random: &mut Random, fits: impl Fn(usize) -> bool) -> Option<
 /// serve two lines, or to hand over to itself. None if the pair has no lines for it.
 pub fn run_with_move(
     cell: &Cell,
-    recipe: &Recipe,
-    sizes: &Sizes,
+    joined: &Joined,
     kind: u32,
     random: &mut Random,
 ) -> Option<(Run, u32)> {
-    let mut run = any_run(sizes, random);
+    let mut run = any_run(joined, random);
+    let recipe = joined.chapter(run.chapter);
     let at_end = kind == STAY;
     let line = some(recipe.count, random, |n| {
         (u32::from(recipe.kind[n]) == END) == at_end
@@ -373,7 +451,7 @@ pub fn run_with_move(
             1
         }
         TRANSFER => {
-            letters = transfer(cell, sizes, &mut run, random)?;
+            letters = transfer(cell, &joined.sizes, &mut run, random)?;
             2
         }
         CARRY => {
@@ -445,7 +523,8 @@ fn carry(cell: &Cell, recipe: &Recipe, run: &mut Run, random: &mut Random) -> Op
 }
 
 /// Every entry that is open at a run in range.
-pub fn open_entries(cell: &Cell, recipe: &Recipe, run: &Run) -> Vec<u32> {
+pub fn open_entries(cell: &Cell, joined: &Joined, run: &Run) -> Vec<u32> {
+    let recipe = joined.chapter(run.chapter);
     let with_act = |act| {
         let lines = 0..usize::from(cell.count);
         lines.filter(move |&n| u32::from(cell.act[n]) == act)
@@ -478,7 +557,7 @@ pub fn open_entries(cell: &Cell, recipe: &Recipe, run: &Run) -> Vec<u32> {
     }
     let carry = |letters: &[usize; 4]| carry_of(cell, recipe, run.point, &letters[..lines.len()]);
     entries.extend(carries.iter().map(carry));
-    entries.retain(|&entry| is_open(cell, recipe, run.point, &run.configuration, entry));
+    entries.retain(|&entry| joined.is_open(cell, run, entry));
     entries
 }
 
@@ -525,7 +604,8 @@ pub fn other_second_letter(entry: u32, cell: &Cell, random: &mut Random) -> u32 
 /// Puts most parts at one station, which is then overfull if it has a small limit; but none of those
 /// that a carry names, so that the entry is otherwise open as before. A transfer may mend its giver, so
 /// that this is often the station.
-pub fn crowd(run: &mut Run, entry: u32, cell: &Cell, recipe: &Recipe, random: &mut Random) {
+pub fn crowd(run: &mut Run, entry: u32, cell: &Cell, joined: &Joined, random: &mut Random) {
+    let recipe = joined.chapter(run.chapter);
     let lines = lines_at(recipe, run.point).into_iter();
     let named = match kind_of(entry) {
         CARRY => lines.fold(0, |sum, n| sum | recipe.takes[n] | recipe.gives[n]),
@@ -533,7 +613,7 @@ pub fn crowd(run: &mut Run, entry: u32, cell: &Cell, recipe: &Recipe, random: &m
     };
     let Sizes {
         resources, parts, ..
-    } = Sizes::of(cell, recipe);
+    } = joined.sizes;
     let small = |&k: &usize| usize::from(cell.limits[k]) < parts;
     let stations: Vec<usize> = (0..resources).filter(small).collect();
     let at_giver = kind_of(entry) == TRANSFER && random.below(4) > 0;
@@ -553,7 +633,7 @@ pub fn crowd(run: &mut Run, entry: u32, cell: &Cell, recipe: &Recipe, random: &m
 
 /// Puts one station into another of its states, or one part to another place.
 pub fn other_configuration(run: &mut Run, sizes: &Sizes, random: &mut Random) {
-    let other = any_run(sizes, random).configuration;
+    let other = any_configuration(sizes, random);
     if random.coin() || sizes.parts == 0 {
         let k = random.below(sizes.resources);
         run.configuration.states[k] = other.states[k];

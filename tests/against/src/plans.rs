@@ -8,7 +8,8 @@ use crate::random::Random;
 use crate::rounds::{accepted, show_records};
 use crate::{scratches, TOO_SHORT};
 use independent::{
-    cell_of_bytes, check_to_plan, entry_of, judge, plan, recipe_of_bytes, scratch_bytes,
+    cell_of_bytes, chapters_of_bytes, check_to_plan, entry_of, judge, plan, scratch_bytes, Cell,
+    Joined, Recipe,
 };
 use std::fmt::{Display, Formatter, Result};
 
@@ -19,7 +20,8 @@ const MARGIN: usize = 8;
 #[derive(Clone)]
 pub struct Handed {
     pub cell: Vec<u8>,
-    pub recipe: Vec<u8>,
+    /// The records of all chapters.
+    pub recipes: Vec<u8>,
     /// The length of the table.
     pub entries: usize,
     /// The length of the scratch in bytes.
@@ -28,7 +30,7 @@ pub struct Handed {
 
 impl Display for Handed {
     fn fmt(&self, f: &mut Formatter) -> Result {
-        show_records(f, &self.cell, &self.recipe)?;
+        show_records(f, &self.cell, &self.recipes)?;
         let Handed {
             entries, scratch, ..
         } = self;
@@ -50,44 +52,45 @@ impl Planned {
 }
 
 impl Handed {
-    /// Two records that pass the rules 3 to 13, with a table and a scratch that are just long enough.
-    pub fn of(cell: Vec<u8>, recipe: Vec<u8>) -> Handed {
-        let (_, _, sizes) = accepted(&cell, &recipe).expect("the records are accepted");
+    /// Records that pass the rules before 14, with a table and a scratch that are just long enough.
+    pub fn of(cell: Vec<u8>, recipes: Vec<u8>) -> Handed {
+        let (_, joined) = accepted(&cell, &recipes).expect("the records are accepted");
+        let [entries, scratch] = needed(&joined);
         Handed {
             cell,
-            recipe,
-            entries: sizes.positions as usize,
-            scratch: scratch_bytes(sizes.positions) as usize,
+            recipes,
+            entries,
+            scratch,
         }
     }
 
     /// The records of such a pair, with just enough lent.
     pub fn of_pair(pair: &Pair) -> Handed {
-        Handed::of(pair.cell_bytes(), pair.recipe_bytes())
+        Handed::of(pair.cell_bytes(), pair.recipes_bytes())
     }
 
-    /// The records of a pair that passes the rules 3 to 13, with a table or a scratch that is too short.
-    pub fn too_short(cell: Vec<u8>, recipe: Vec<u8>, random: &mut Random) -> Handed {
-        let mut handed = Handed::of(cell, recipe);
-        [handed.entries, handed.scratch] = scratches::too_short(handed.entries, random);
+    /// The records of a pair that passes the rules before 14, with a table or a scratch that is too short.
+    pub fn too_short(cell: Vec<u8>, recipes: Vec<u8>, random: &mut Random) -> Handed {
+        let mut handed = Handed::of(cell, recipes);
+        let needed = [handed.entries, handed.scratch];
+        [handed.entries, handed.scratch] = scratches::too_short(needed, random);
         handed
     }
 
-    /// The records of a pair after some damage. Those that pass the rules 3 to 13 get what they need, but not
+    /// The records of a pair after some damage. Those that pass the rules before 14 get what they need, but not
     /// if there are more positions than this.
     pub fn damaged(pair: &Pair, most_positions: usize, random: &mut Random) -> Handed {
-        let (cell, recipe) = seeded_records(pair, random);
-        let [entries, scratch] = match accepted(&cell, &recipe) {
-            Some((_, _, sizes)) if sizes.positions as usize <= most_positions => {
-                [sizes.positions, scratch_bytes(sizes.positions)].map(|length| length as usize)
-            }
-            Some((_, _, sizes)) => scratches::too_short(sizes.positions as usize, random),
+        let (cell, recipes) = seeded_records(pair, random);
+        let [entries, scratch] = match accepted(&cell, &recipes).map(|(_, joined)| needed(&joined))
+        {
+            Some(needed) if needed[0] <= most_positions => needed,
+            Some(needed) => scratches::too_short(needed, random),
             None => [(); 2].map(|()| random.below(100)),
         };
         // Neither is longer than this, for the content is made up each time.
         Handed {
             cell,
-            recipe,
+            recipes,
             entries: entries.min(most_positions),
             scratch: scratch.min(most_positions),
         }
@@ -101,16 +104,16 @@ impl Handed {
         // Cell lines 1 and 4 end in state 7, and recipe line 3 takes part 7 too.
         self.cell[1 + 5 + 4] = 7;
         self.cell[1 + 4 * 5 + 4] = 7;
-        self.recipe[1 + 3 * 7 + 3] = 129;
+        self.recipes[1 + 3 * 7 + 3] = 129;
         steps.push((self.clone(), 13));
         // The test at point 1 leads to point 2 at both outcomes, and so nothing to point 3.
-        self.recipe[1 + 7 + 6] = 2;
+        self.recipes[1 + 7 + 6] = 2;
         steps.push((self.clone(), 22));
-        let records = (self.cell.clone(), self.recipe.clone());
-        for ((cell, recipe), refusal) in ever_more_damaged(records) {
+        let records = (self.cell.clone(), self.recipes.clone());
+        for ((cell, recipes), refusal) in ever_more_damaged(records) {
             let handed = Handed {
                 cell,
-                recipe,
+                recipes,
                 ..self
             };
             steps.push((handed, refusal));
@@ -135,8 +138,8 @@ impl Handed {
     pub fn plan_alike(&self, random: &mut Random) -> Planned {
         let planned = self.plan_with(Lent::bytes(self.scratch, random), random);
         let mut table = planned.table.clone();
-        let (cell, recipe) = (cell_of_bytes(&self.cell), recipe_of_bytes(&self.recipe));
-        let refusal = plan(&cell, &recipe, &mut table, self.scratch);
+        let (cell, chapters) = self.records();
+        let refusal = plan(&cell, &chapters, &mut table, self.scratch);
         assert_eq!(planned.refusal, u32::from(refusal), "the refusal\n{self}");
         let mut entries = planned.table.iter().zip(&table);
         let other = entries.position(|(entry, owed)| entry != owed);
@@ -167,7 +170,7 @@ impl Handed {
     fn plan_with(&self, mut scratch: Lent<u8>, random: &mut Random) -> Planned {
         let mut table = Lent::table(self.entries, random);
         let refusal = self
-            .call(|cell, recipe| Library::plan(cell, recipe, table.content(), scratch.content()));
+            .call(|cell, recipes| Library::plan(cell, recipes, table.content(), scratch.content()));
 
         let refused = self.refused_before_15();
         let before_15 = if refusal == 15 { 0 } else { refusal };
@@ -182,40 +185,52 @@ impl Handed {
 
     /// Makes a call on the records, which must leave them as they are.
     pub(crate) fn call<T>(&self, call: impl FnOnce(&[u8], &[u8]) -> T) -> T {
-        let (cell, recipe) = (self.cell.clone(), self.recipe.clone());
-        let answer = call(&cell, &recipe);
+        let (cell, recipes) = (self.cell.clone(), self.recipes.clone());
+        let answer = call(&cell, &recipes);
         assert!(
-            cell == self.cell && recipe == self.recipe,
+            cell == self.cell && recipes == self.recipes,
             "a record has changed\n{self}"
         );
         answer
     }
 
+    /// The cell and its chapters.
+    fn records(&self) -> (Cell, Vec<Recipe>) {
+        (cell_of_bytes(&self.cell), chapters_of_bytes(&self.recipes))
+    }
+
     /// The first refusal of the rules before 15, or 0.
     fn refused_before_15(&self) -> u8 {
-        let refusal = check_to_plan(&cell_of_bytes(&self.cell), &recipe_of_bytes(&self.recipe));
+        let (cell, chapters) = self.records();
         let short = || {
-            let positions = self.positions();
-            let needed = scratch_bytes(positions as u64) as usize;
-            self.entries < positions || self.scratch < needed
+            let [entries, scratch] = needed(&Joined::of(&cell, &chapters));
+            self.entries < entries || self.scratch < scratch
         };
-        match refusal {
+        match check_to_plan(&cell, &chapters) {
             0 if short() => TOO_SHORT,
-            _ => refusal,
+            refusal => refusal,
         }
     }
 
-    /// How many positions there are; 0 if the records break one of the rules 3 to 13.
+    /// How many positions there are in all chapters; 0 if the records break one of the rules before 14.
     fn positions(&self) -> usize {
-        let records = accepted(&self.cell, &self.recipe);
-        records.map_or(0, |(_, _, sizes)| sizes.positions as usize)
+        let records = accepted(&self.cell, &self.recipes);
+        records.map_or(0, |(_, joined)| joined.sizes.positions as usize)
     }
 
     /// The answer that is owed with this table, which the judge must allow.
     fn judged(&self, table: &[u32]) -> u8 {
-        let (cell, recipe) = (cell_of_bytes(&self.cell), recipe_of_bytes(&self.recipe));
-        judge(&cell, &recipe, table).unwrap_or_else(|fault| panic!("{fault}\n{self}"))
+        let (cell, chapters) = self.records();
+        let joined = Joined::of(&cell, &chapters);
+        judge(&cell, &joined, table).unwrap_or_else(|fault| panic!("{fault}\n{self}"))
     }
+}
+
+/// How many entries of a table and bytes of a scratch the chapters need: as many as there are positions in all,
+/// and a bit for each of the chapter that has most.
+pub fn needed(joined: &Joined) -> [usize; 2] {
+    let scratch = scratch_bytes(joined.greatest_positions());
+    [joined.sizes.positions, scratch].map(|length| length as usize)
 }
 
 /// What is lent to a call, with a margin on either side, and a copy of how it was.

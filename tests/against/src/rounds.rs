@@ -5,8 +5,7 @@ use crate::calls::{Calls, Independent, Library};
 use crate::random::Random;
 use crate::RunRecord;
 use independent::{
-    cell_of_bytes, check, entry_of, recipe_of_bytes, run_of_bytes, Cell, Recipe, Sizes,
-    MOST_POSITIONS,
+    cell_of_bytes, chapters_of_bytes, check, entry_of, run_of_bytes, Cell, Joined, RECIPE_BYTES,
 };
 use std::fmt::{Display, Formatter, Result};
 
@@ -14,7 +13,7 @@ use std::fmt::{Display, Formatter, Result};
 #[derive(Clone, PartialEq, Eq)]
 pub struct Round {
     pub cell: Vec<u8>,
-    pub recipe: Vec<u8>,
+    pub recipes: Vec<u8>,
     pub run: Vec<u8>,
     /// How many entries of the table are handed in.
     pub entries: usize,
@@ -24,7 +23,7 @@ pub struct Round {
 
 impl Display for Round {
     fn fmt(&self, f: &mut Formatter) -> Result {
-        show_records(f, &self.cell, &self.recipe)?;
+        show_records(f, &self.cell, &self.recipes)?;
         writeln!(f, "run {:?}", self.run)?;
         if let Some(position) = self.position() {
             writeln!(f, "position {position}")?;
@@ -39,33 +38,37 @@ impl Display for Round {
     }
 }
 
-/// Writes the lines of two records.
-pub(crate) fn show_records(f: &mut Formatter, cell: &[u8], recipe: &[u8]) -> Result {
-    for (name, record, columns) in [("cell", cell, 5), ("recipe", recipe, 7)] {
-        let (count, lines) = record.split_first().unwrap_or((&0, &[]));
-        let lines: Vec<&[u8]> = lines.chunks(columns).take((*count).into()).collect();
-        let length = record.len();
-        writeln!(f, "{name} of {length} bytes, {count} lines: {lines:?}")?;
-    }
-    writeln!(f, "limits {:?}", cell_of_bytes(cell).limits)
+/// Writes the lines of a cell's record and of the records of its chapters.
+pub(crate) fn show_records(f: &mut Formatter, cell: &[u8], recipes: &[u8]) -> Result {
+    show_record(f, "cell", cell, 5)?;
+    writeln!(f, "limits {:?}", cell_of_bytes(cell).limits)?;
+    writeln!(f, "recipes of {} bytes", recipes.len())?;
+    let mut chapters = recipes.chunks_exact(RECIPE_BYTES);
+    chapters.try_for_each(|recipe| show_record(f, "recipe", recipe, 7))
+}
+
+fn show_record(f: &mut Formatter, name: &str, record: &[u8], columns: usize) -> Result {
+    let (count, lines) = record.split_first().unwrap_or((&0, &[]));
+    let lines: Vec<&[u8]> = lines.chunks(columns).take((*count).into()).collect();
+    let length = record.len();
+    writeln!(f, "{name} of {length} bytes, {count} lines: {lines:?}")
 }
 
 impl Round {
-    /// The run's position, if the round comes past rule 16.
+    /// The run's position in the table, if the round comes past rule 16.
     pub fn position(&self) -> Option<u64> {
-        let (_, _, sizes) = accepted(&self.cell, &self.recipe)?;
+        let (_, joined) = accepted(&self.cell, &self.recipes)?;
         let run = run_of_bytes(&self.run);
-        let held = sizes.holds(run.point, &run.configuration);
-        held.then(|| sizes.position(run.point, &run.configuration))
+        joined.holds(&run).then(|| joined.position(&run))
     }
 }
 
-/// The records with their sizes, if they pass the rules 3 to 13.
-pub fn accepted(cell: &[u8], recipe: &[u8]) -> Option<(Cell, Recipe, Sizes)> {
-    let (cell, recipe) = (cell_of_bytes(cell), recipe_of_bytes(recipe));
-    (check(&cell, &recipe) == 0).then(|| {
-        let sizes = Sizes::of(&cell, &recipe);
-        (cell, recipe, sizes)
+/// The cell and its chapters, joined, if they pass the rules before 14 that every call tries.
+pub fn accepted(cell: &[u8], recipes: &[u8]) -> Option<(Cell, Joined)> {
+    let (cell, chapters) = (cell_of_bytes(cell), chapters_of_bytes(recipes));
+    (check(&cell, &chapters) == 0).then(|| {
+        let joined = Joined::of(&cell, &chapters);
+        (cell, joined)
     })
 }
 
@@ -76,7 +79,7 @@ pub struct Table {
 }
 
 impl Table {
-    /// Entries past the greatest M, so that a table can be longer than it has to be.
+    /// Entries past the most that are needed, so that a table can be longer than it has to be.
     pub const SPARE: usize = 8;
 
     pub fn new(entries: Vec<u32>) -> Table {
@@ -86,13 +89,13 @@ impl Table {
         }
     }
 
-    /// A table for any accepted pair, full of entries without a plan.
-    pub fn seeded(random: &mut Random) -> Table {
+    /// A table for any accepted pair of so many positions at most, full of entries without a plan.
+    pub fn seeded(most_positions: usize, random: &mut Random) -> Table {
         let entry = |random: &mut Random| match random.below(4) {
             0 => random.bits() as u32,
             _ => entry_of(random.number(5), [(); 4].map(|()| random.below(8))),
         };
-        let length = MOST_POSITIONS as usize + Table::SPARE;
+        let length = most_positions + Table::SPARE;
         Table::new((0..length).map(|_| entry(random)).collect())
     }
 
@@ -123,26 +126,26 @@ pub struct Answers {
 /// Compares every call's result in one round, and the bytes afterwards.
 pub fn compare(round: &Round, table: &Table) -> Answers {
     let handed = round.clone();
-    let (cell, recipe, run) = (&handed.cell, &handed.recipe, &handed.run);
+    let (cell, recipes, run) = (&handed.cell, &handed.recipes, &handed.run);
     let entries = &table.entries[..round.entries];
     let answers = Answers {
         check: same(
             "check",
-            Library::check(cell, recipe),
-            Independent::check(cell, recipe),
+            Library::check(cell, recipes),
+            Independent::check(cell, recipes),
             round,
         ),
         next_move: same(
             "next-move",
-            Library::next_move(cell, recipe, entries, run),
-            Independent::next_move(cell, recipe, entries, run),
+            Library::next_move(cell, recipes, entries, run),
+            Independent::next_move(cell, recipes, entries, run),
             round,
         ),
         report: compare_report(&handed, entries),
         place: same(
             "place",
-            Library::place(cell, recipe, run, round.part),
-            Independent::place(cell, recipe, run, round.part),
+            Library::place(cell, recipes, run, round.part),
+            Independent::place(cell, recipes, run, round.part),
             round,
         ),
     };
@@ -155,13 +158,13 @@ pub fn compare(round: &Round, table: &Table) -> Answers {
 
 /// Compares a report's result and the run that it leaves, the bytes past the run too.
 fn compare_report(round: &Round, entries: &[u32]) -> u32 {
-    let (cell, recipe) = (&round.cell, &round.recipe);
+    let (cell, recipes) = (&round.cell, &round.recipes);
     let mut left = round.run.clone();
     let mut expected = round.run.clone();
     let refusal = same(
         "report",
-        Library::report(cell, recipe, entries, &mut left, round.outcome),
-        Independent::report(cell, recipe, entries, &mut expected, round.outcome),
+        Library::report(cell, recipes, entries, &mut left, round.outcome),
+        Independent::report(cell, recipes, entries, &mut expected, round.outcome),
         round,
     );
     assert!(
@@ -177,8 +180,8 @@ fn compare_forms(round: &Round, entries: &[u32], refusal: u32, left: &[u8]) {
     let Some(mut record) = RunRecord::of(&round.run) else {
         return;
     };
-    let (cell, recipe) = (&round.cell, &round.recipe);
-    let second = Library::report_record(cell, recipe, entries, &mut record, round.outcome);
+    let (cell, recipes) = (&round.cell, &round.recipes);
+    let second = Library::report_record(cell, recipes, entries, &mut record, round.outcome);
     assert!(
         second == refusal && Some(record) == RunRecord::of(left),
         "report: the second form answers {second} and leaves {record:?}, the first {refusal} and {left:?}\n{round}"

@@ -1,39 +1,37 @@
 //! Scratches: lengths that are enough, lengths that aren't, and what was seen of both.
 
-use crate::plans::Handed;
+use crate::plans::{needed, Handed};
 use crate::random::Random;
 use crate::rounds::accepted;
 use crate::TOO_SHORT;
-use independent::{every_point_is_reached, scratch_bytes};
+use independent::every_point_is_reached;
 
-/// A length with a bit for each position: just enough, a little more, or any up to more than a byte for
-/// each position.
-pub fn long_enough(positions: usize, random: &mut Random) -> usize {
-    let needed = scratch_bytes(positions as u64) as usize;
+/// A length that is enough where so many bytes are needed: just enough, a little more, or any up to more than
+/// a byte for each position.
+pub fn long_enough(needed: usize, random: &mut Random) -> usize {
     match random.below(4) {
         0 | 1 => needed,
         2 => needed + random.choose(&[1, 9]),
-        _ => needed + random.below(positions),
+        _ => needed + random.below(8 * needed),
     }
 }
 
-/// Lengths of a table and a scratch of which one is too short at least, most times by one. Where 8 doesn't
-/// divide M, a scratch that is too short by one has M/8 bytes, rounded down.
-pub fn too_short(positions: usize, random: &mut Random) -> [usize; 2] {
+/// Lengths of a table and a scratch of which one is too short at least, most times by one, where so many are
+/// needed. Where 8 doesn't divide M, a scratch that is too short by one has M/8 bytes, rounded down.
+pub fn too_short([entries, scratch]: [usize; 2], random: &mut Random) -> [usize; 2] {
     let less = |needed: usize, random: &mut Random| match random.below(3) {
         0 => random.below(needed),
         _ => needed - 1,
     };
-    let needed = scratch_bytes(positions as u64) as usize;
     match random.below(3) {
-        0 => [less(positions, random), long_enough(positions, random)],
-        1 => [positions + random.below(9), less(needed, random)],
-        _ => [less(positions, random), less(needed, random)],
+        0 => [less(entries, random), long_enough(scratch, random)],
+        1 => [entries + random.below(9), less(scratch, random)],
+        _ => [less(entries, random), less(scratch, random)],
     }
 }
 
 /// What was seen of the calls in which the scratch alone decides whether 14 is given: the records pass the
-/// rules before that, and the table is long enough.
+/// rules before that, and the table is long enough. M is that of the chapter that has most.
 #[derive(Default)]
 pub struct Seen {
     /// Those refused with 14, by M modulo 8.
@@ -49,20 +47,20 @@ pub struct Seen {
 
 impl Seen {
     pub fn note(&mut self, handed: &Handed, refusal: u32) {
-        let Some((_, recipe, sizes)) = accepted(&handed.cell, &handed.recipe) else {
+        let Some((_, joined)) = accepted(&handed.cell, &handed.recipes) else {
             return;
         };
-        let positions = sizes.positions as usize;
-        if handed.entries < positions || !every_point_is_reached(&recipe) {
+        let [entries, least] = needed(&joined);
+        if handed.entries < entries || !joined.chapters.iter().all(every_point_is_reached) {
             return;
         }
-        let scratch = handed.scratch;
+        let (scratch, positions) = (handed.scratch, joined.greatest_positions() as usize);
         if refusal == u32::from(TOO_SHORT) {
             self.short[positions % 8] += 1;
             self.rounded_down += usize::from(scratch == positions / 8);
         } else {
             self.enough[positions % 8] += 1;
-            self.just_enough += usize::from(scratch as u64 == scratch_bytes(sizes.positions));
+            self.just_enough += usize::from(scratch == least);
             self.below_positions += usize::from(scratch < positions);
         }
     }

@@ -1,12 +1,13 @@
 //! The library's planner on cells with long silent ways, through the C interface: hundreds of layers, many of
-//! them small. Its tables are the independent planner's, entry for entry.
+//! them small. Its tables are the independent planner's, entry for entry, in one chapter and in several.
 
 use against::plans::Handed;
 use against::random::Random;
 use independent::{
-    cell_bytes, chain_pair, kind_of, letters_of, long_ways_pair, longest_way, recipe_bytes,
-    stations_reversed, Cell, Recipe, Sizes, CARRY,
+    cell_bytes, chain_pair, chapters_bytes, cut, kind_of, letters_of, long_ways_pair, longest_way,
+    stations_reversed, Cell, Joined, Recipe, CARRY,
 };
+use std::slice;
 
 /// Seeded chains, and the most positions of one.
 const CHAINS: usize = 600;
@@ -35,12 +36,12 @@ struct Seen {
 }
 
 impl Seen {
-    /// Plans a pair with just enough lent, and notes what was seen.
-    fn plan(&mut self, (cell, recipe): &(Cell, Recipe), random: &mut Random) {
-        let handed = Handed::of(cell_bytes(cell).to_vec(), recipe_bytes(recipe).to_vec());
+    /// Plans chapters with just enough lent, and notes what was seen.
+    fn plan(&mut self, cell: &Cell, chapters: &[Recipe], random: &mut Random) {
+        let handed = Handed::of(cell_bytes(cell).to_vec(), chapters_bytes(chapters));
         let planned = handed.plan_alike(random);
-        let longest = longest_way(cell, recipe, &planned.table).expect("every way is in time");
-        let sizes = Sizes::of(cell, recipe);
+        let joined = Joined::of(cell, chapters);
+        let longest = longest_way(cell, &joined, &planned.table).expect("every way is in time");
         let refused = usize::from(planned.refusal == 15);
         self.planned[refused] += 1;
         self.longest = self.longest.max(longest);
@@ -50,7 +51,7 @@ impl Seen {
             kind_of(entry) == CARRY && b != 0 && cell.to[a] != cell.to[b]
         };
         self.parted[refused] += usize::from(planned.table.iter().any(is_parted));
-        if sizes.joint_states * sizes.placings < FEW_CONFIGURATIONS {
+        if joined.sizes.configurations() < FEW_CONFIGURATIONS {
             self.few[refused] += 1;
         } else {
             self.many[refused] += 1;
@@ -64,16 +65,22 @@ fn seeded_chains() {
     let mut random = Random::new(53);
     let mut source = independent::Random(54);
     let mut seen = Seen::default();
+    let mut in_chapters = Seen::default();
     for _ in 0..CHAINS {
-        let pair = chain_pair(MOST_POSITIONS, &mut source);
-        seen.plan(&pair, &mut random);
+        let (cell, recipe) = chain_pair(MOST_POSITIONS, &mut source);
+        seen.plan(&cell, slice::from_ref(&recipe), &mut random);
+        if let Some(cut) = cut(&recipe, &mut source) {
+            in_chapters.plan(&cell, &cut.chapters, &mut random);
+        }
     }
     println!("{seen:?}");
+    println!("cut into chapters: {in_chapters:?}");
     let least = |seen: [usize; 2], least: [usize; 2]| (0..2).all(|n| seen[n] >= least[n]);
     assert!(least(seen.planned, [300, 100]));
     assert!(least(seen.few, [20, 10]) && least(seen.many, [300, 100]));
     assert!(least(seen.long, [150, 15]) && seen.longest > 1_000);
     assert!(least(seen.parted, [50, 1]));
+    assert!(least(in_chapters.planned, [100, 20]) && least(in_chapters.long, [50, 5]));
 }
 
 #[test]
@@ -83,7 +90,7 @@ fn silent_ways_of_thousands_of_moves() {
         let pair = long_ways_pair(stations, parts);
         for pair in [stations_reversed(pair.clone()), pair] {
             let mut seen = Seen::default();
-            seen.plan(&pair, &mut random);
+            seen.plan(&pair.0, slice::from_ref(&pair.1), &mut random);
             assert_eq!((seen.long, seen.longest), ([1, 0], moves));
         }
     }

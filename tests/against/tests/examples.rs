@@ -1,7 +1,8 @@
 //! The C examples, compiled against the library and run on good and damaged files.
 
 use against::pairs::PASTED_END;
-use independent::{plan, read_cell, read_recipe, scratch_bytes, Run, Sizes};
+use against::plans::needed;
+use independent::{plan, read_cell, read_recipe, Joined, Recipe, Run};
 use std::collections::BTreeMap;
 use std::fs;
 use std::path::{Path, PathBuf};
@@ -19,6 +20,16 @@ const GAP_CELL: &str = include_str!("../../../examples/gap/cell.csv");
 const GAP_RECIPE: &str = include_str!("../../../examples/gap/recipe.csv");
 const GATE_CELL: &str = include_str!("../../../examples/gate/cell.csv");
 const GATE_RECIPE: &str = include_str!("../../../examples/gate/recipe.csv");
+const CHAPTERS_CELL: &str = include_str!("../../../examples/chapters/cell.csv");
+const CHAPTERS: [&str; 2] = [
+    include_str!("../../../examples/chapters/recipe_0.csv"),
+    include_str!("../../../examples/chapters/recipe_1.csv"),
+];
+const CHAPTERS_TABLE: &str = include_str!("../../../examples/chapters/table.csv");
+
+/// Recipes of one end, and of two of which nothing leads to the second.
+const ONE_END: &str = "point,kind,op,takes,gives,then,else\n0,0,0,0,0,0,0\n";
+const TWO_ENDS: &str = "point,kind,op,takes,gives,then,else\n0,0,0,0,0,0,0\n1,0,0,0,0,0,0\n";
 
 fn root() -> &'static Path {
     Path::new(env!("CARGO_MANIFEST_DIR"))
@@ -114,45 +125,71 @@ fn check(name: &str, cell: Option<&str>, recipe: Option<&str>) {
     compare(name, Command::new(check_files()).args(files));
 }
 
+/// The recipe files of these chapters in a folder of this name, and the cell's before them.
+fn chapter_files(name: &str, cell: &str, chapters: &[&str]) -> Vec<PathBuf> {
+    let names = (0..chapters.len()).map(|n| format!("recipe_{n}.csv"));
+    let names: Vec<String> = names.collect();
+    let mut files = vec![("cell.csv", Some(cell))];
+    files.extend(
+        names
+            .iter()
+            .map(String::as_str)
+            .zip(chapters.iter().copied().map(Some)),
+    );
+    let folder = folder(name, &files);
+    files.iter().map(|(file, _)| folder.join(file)).collect()
+}
+
+/// Checks a cell with these chapters.
+fn check_chapters(name: &str, cell: &str, chapters: &[&str]) {
+    let files = chapter_files(name, cell, chapters);
+    compare(name, Command::new(check_files()).args(files));
+}
+
 /// Checks a limits file, where it is given, with this cell and the nest example's recipe.
 fn check_limits(name: &str, cell: &str, limits: Option<&str>) {
     let files = [
+        ("limits.csv", limits),
         ("cell.csv", Some(cell)),
         ("recipe.csv", Some(NEST_RECIPE)),
-        ("limits.csv", limits),
     ];
     let folder = folder(name, &files);
     let files = files.map(|(file, _)| folder.join(file));
-    compare(name, Command::new(check_files()).args(files));
+    compare(name, Command::new(check_files()).arg("-l").args(files));
 }
 
 /// Follows a table of these files.
 fn follow(name: &str, [cell, recipe, table]: [&str; 3], outcomes: &str) {
-    let files = [
-        ("cell.csv", Some(cell)),
-        ("recipe.csv", Some(recipe)),
-        ("table.csv", Some(table)),
-    ];
-    let folder = folder(name, &files);
-    let files = files.map(|(file, _)| folder.join(file));
+    follow_chapters(name, cell, &[recipe], table, outcomes);
+}
+
+/// Follows a table of a cell with these chapters.
+fn follow_chapters(name: &str, cell: &str, chapters: &[&str], table: &str, outcomes: &str) {
+    let mut files = chapter_files(name, cell, chapters);
+    let path = files[0].with_file_name("table.csv");
+    fs::write(&path, table).expect("a file can be written");
+    files.push(path);
     compare(name, Command::new(follow_table()).args(files).arg(outcomes));
 }
 
 /// The independent planner's table for these files, as far as a run from the start can come.
-fn planned_table(cell: &str, recipe: &str) -> String {
+fn planned_table(cell: &str, chapters: &[&str]) -> String {
     let cell = read_cell(cell.as_bytes()).record;
-    let recipe = read_recipe(recipe.as_bytes()).record;
-    let sizes = Sizes::of(&cell, &recipe);
-    let mut table = vec![0; sizes.positions as usize];
-    let scratch = scratch_bytes(sizes.positions) as usize;
-    assert_eq!(plan(&cell, &recipe, &mut table, scratch), 0);
+    let recipes = chapters
+        .iter()
+        .map(|file| read_recipe(file.as_bytes()).record);
+    let recipes: Vec<Recipe> = recipes.collect();
+    let joined = Joined::of(&cell, &recipes);
+    let [entries, scratch] = needed(&joined);
+    let mut table = vec![0; entries];
+    assert_eq!(plan(&cell, &recipes, &mut table, scratch), 0);
     let mut entries = BTreeMap::new();
     let mut waiting = vec![Run::fresh()];
     while let Some(run) = waiting.pop() {
-        let position = sizes.position(run.point, &run.configuration);
+        let position = joined.position(&run);
         let entry = table[position as usize];
         if entries.insert(position, entry).is_none() {
-            let reports = [0, 1].map(|outcome| run.report(&cell, &recipe, &table, outcome));
+            let reports = [0, 1].map(|outcome| run.report(&cell, &recipes, &table, outcome));
             waiting.extend(reports.map(|report| report.run));
         }
     }
@@ -165,6 +202,12 @@ fn screen(name: &str, [cell, recipe]: [&str; 2], outcomes: &[&str]) {
     let files = [("cell.csv", Some(cell)), ("recipe.csv", Some(recipe))];
     let folder = folder(name, &files);
     let files = files.map(|(file, _)| folder.join(file));
+    compare(name, Command::new(line_screen()).args(files).args(outcomes));
+}
+
+/// Plans for a cell with these chapters, and follows the plan.
+fn screen_chapters(name: &str, cell: &str, chapters: &[&str], outcomes: &[&str]) {
+    let files = chapter_files(name, cell, chapters);
     compare(name, Command::new(line_screen()).args(files).args(outcomes));
 }
 
@@ -199,11 +242,15 @@ fn the_bench_example() {
 
 #[test]
 fn the_scripts_build_and_run_the_examples() {
-    let nest = ["cell.csv", "recipe.csv", "limits.csv"];
+    let nest = ["-l", "limits.csv", "cell.csv", "recipe.csv"];
     let limited = "-l limits.csv cell.csv recipe.csv 0 0 0 0 0";
     let limited: Vec<&str> = limited.split(' ').collect();
     let gate = "../gate/cell.csv ../gate/recipe.csv 0 0 0 0";
     let gate: Vec<&str> = gate.split(' ').collect();
+    let chapters = ["cell.csv", "recipe_0.csv", "recipe_1.csv"].map(|f| format!("../chapters/{f}"));
+    let chapters: Vec<&str> = chapters.iter().map(String::as_str).collect();
+    let screened = [&chapters[..], &["0", "0", "1", "0"]].concat();
+    let followed = [&chapters[..], &["../chapters/table.csv", "0000"]].concat();
     for (script, arguments, name) in [
         ("run", &[][..], "bench"),
         ("follow", &[], "follow"),
@@ -212,6 +259,9 @@ fn the_scripts_build_and_run_the_examples() {
         ("screen", &limited, "screen_nest"),
         ("screen", &gate, "screen_gate_opens"),
         ("install", &[], "install"),
+        ("run", &chapters, "chapters"),
+        ("screen", &screened, "screen_chapters"),
+        ("follow", &followed, "follow_chapters"),
     ] {
         let output = Command::new(root().join("examples/c").join(script))
             .args(arguments)
@@ -281,7 +331,7 @@ fn a_recipe_with_a_forgotten_point() {
 
 #[test]
 fn the_stored_table_is_the_bench_examples_plan() {
-    assert_eq!(BENCH_TABLE, planned_table(BENCH_CELL, BENCH_RECIPE));
+    assert_eq!(BENCH_TABLE, planned_table(BENCH_CELL, &[BENCH_RECIPE]));
 }
 
 #[test]
@@ -290,8 +340,55 @@ fn a_test_with_a_reject_gate() {
     check("gate", Some(GATE_CELL), Some(GATE_RECIPE));
     screen("screen_gate", files, &["0", "0", "1", "0"]);
     screen("screen_gate_opens", files, &["0", "0", "0", "0"]);
-    let table = planned_table(GATE_CELL, GATE_RECIPE);
+    let table = planned_table(GATE_CELL, &[GATE_RECIPE]);
     follow("follow_gate", [files[0], files[1], &table], "00000010");
+}
+
+#[test]
+fn a_recipe_in_two_chapters() {
+    assert_eq!(CHAPTERS_CELL, BENCH_CELL);
+    assert_eq!(CHAPTERS_TABLE, planned_table(CHAPTERS_CELL, &CHAPTERS));
+    check_chapters("chapters", CHAPTERS_CELL, &CHAPTERS);
+    let outcomes = ["0", "0", "1", "0"];
+    screen_chapters("screen_chapters", CHAPTERS_CELL, &CHAPTERS, &outcomes);
+    let outcomes = ["0", "0", "0", "0", "0"];
+    screen_chapters("screen_chapters_end", CHAPTERS_CELL, &CHAPTERS, &outcomes);
+    let table = CHAPTERS_TABLE;
+    follow_chapters("follow_chapters", CHAPTERS_CELL, &CHAPTERS, table, "0000");
+    follow_chapters(
+        "follow_chapters_17",
+        CHAPTERS_CELL,
+        &CHAPTERS,
+        table,
+        "0012",
+    );
+}
+
+#[test]
+fn chapters_that_are_refused() {
+    // One after another the same, of which the second finds its part given already.
+    let twice = [CHAPTERS[0]; 2];
+    check_chapters("chapters_twice", BENCH_CELL, &twice);
+    screen_chapters("screen_chapters_twice", BENCH_CELL, &twice, &["0"]);
+    // A first chapter of one end; and one of two, of which a plan is refused before that.
+    let one_end = [ONE_END, BENCH_RECIPE];
+    check_chapters("chapters_one_end", BENCH_CELL, &one_end);
+    screen_chapters("screen_chapters_one_end", BENCH_CELL, &one_end, &["0"]);
+    let two_ends = [TWO_ENDS, BENCH_RECIPE];
+    check_chapters("chapters_two_ends", BENCH_CELL, &two_ends);
+    screen_chapters("screen_chapters_two_ends", BENCH_CELL, &two_ends, &["0"]);
+    follow_chapters(
+        "follow_chapters_24",
+        BENCH_CELL,
+        &two_ends,
+        BENCH_TABLE,
+        "0",
+    );
+    // A file that is refused is named by its chapter.
+    let damaged = CHAPTERS[1].replace("1,1,3,1,0,3,0", "1,1,3,1,0,4,0");
+    let damaged = [CHAPTERS[0], &damaged];
+    check_chapters("chapters_12", BENCH_CELL, &damaged);
+    screen_chapters("screen_chapters_12", BENCH_CELL, &damaged, &["0"]);
 }
 
 #[test]

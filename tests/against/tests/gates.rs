@@ -14,9 +14,10 @@ use against::rounds::{compare, Round, Table};
 use against::{same_reading, CellFile, Format, LimitsFile, RecipeFile, RunRecord};
 use independent::{
     cell_bytes, check, check_cell, entry_of, every_point_is_reached, kind_of, letters_of,
-    recipe_bytes, run_bytes, Cell, Recipe, Run, Sizes, CARRY, CELL_BYTES, MOST_LINES,
+    recipe_bytes, run_bytes, Cell, Joined, Recipe, Run, CARRY, CELL_BYTES, MOST_LINES,
     MOST_RESOURCES, RUN_BYTES,
 };
+use std::slice;
 
 const BENCH_CELL: &str = include_str!("../../../examples/bench/cell.csv");
 const BENCH_RECIPE: &str = include_str!("../../../examples/bench/recipe.csv");
@@ -82,12 +83,12 @@ fn followed(pair: &Pair, outcomes: &[u8]) -> Vec<(u64, u8)> {
     let handed = Handed::of_pair(pair);
     let Planned { refusal, table } = handed.plan(&mut Random::new(1));
     assert_eq!(refusal, 0);
-    let Handed { cell, recipe, .. } = &handed;
+    let Handed { cell, recipes, .. } = &handed;
     let mut run = [0xff; RUN_BYTES];
     assert_eq!(Library::fresh(&mut run), 0);
     let step = |&outcome: &u8| {
-        let entry = Library::next_move(cell, recipe, &table, &run);
-        let refusal = Library::report(cell, recipe, &table, &mut run, outcome);
+        let entry = Library::next_move(cell, recipes, &table, &run);
+        let refusal = Library::report(cell, recipes, &table, &mut run, outcome);
         assert_eq!(refusal, 0);
         (entry, run[0])
     };
@@ -135,7 +136,7 @@ fn a_gate_may_make_a_recipe_realisable_and_may_spoil_it() {
 
 #[test]
 fn worked_refusals() {
-    let recipe = bench_behind(&[]).recipe_bytes();
+    let recipe = bench_behind(&[]).recipes_bytes();
     for (lines, line) in [
         (&["1,1,4,3,0"][..], 7),
         (&["1,1,4,2,0", "1,1,4,2,1"], 8),
@@ -191,8 +192,8 @@ type Way = fn(Case, Half, &mut Random) -> Option<Case>;
 
 /// The refusal of the rules 3 to 13 that a pair gets.
 fn checked(pair: &Pair) -> u8 {
-    let (cell, recipe) = pair.records();
-    check(&cell, &recipe)
+    let (cell, chapters) = pair.records();
+    check(&cell, &chapters)
 }
 
 /// Breaks rule 23 and nothing else.
@@ -224,15 +225,15 @@ fn limit_above(mut case: Case, half: Half, random: &mut Random) -> Option<Case> 
 fn recipe_rule(mut case: Case, half: Half, random: &mut Random) -> Option<Case> {
     let rule = random.choose(&[3, 4, 7, 8, 9, 10, 11, 12]);
     match rule {
-        3 => case.pair.recipe.clear(),
-        _ => RecipeFile::break_rule(rule, &mut case.pair.recipe, random),
+        3 => case.pair.recipes[0].clear(),
+        _ => RecipeFile::break_rule(rule, &mut case.pair.recipes[0], random),
     }
     (checked(&case.pair) != 0).then(|| alone(case, half, random))?
 }
 
 /// Forgets a point.
 fn unreached(mut case: Case, half: Half, random: &mut Random) -> Option<Case> {
-    case.pair.recipe = forgetful(&case.pair.recipe, random);
+    case.pair.recipes[0] = forgetful(&case.pair.recipes[0], random);
     alone(case, half, random)
 }
 
@@ -241,7 +242,7 @@ fn too_great(mut case: Case, half: Half, random: &mut Random) -> Option<Case> {
     case.pair.limits = NO_LIMITS;
     let found = (0..8).any(|_| {
         case.pair.cell = CellFile::good_rows(random);
-        case.pair.recipe = RecipeFile::good_rows(random);
+        case.pair.recipes = vec![RecipeFile::good_rows(random)];
         checked(&case.pair) == 13
     });
     found.then(|| alone(case, half, random))?
@@ -289,9 +290,10 @@ const WAYS: [(&str, Way, u8); 12] = [
 /// A good case, but for the table, which will be of zeros.
 fn good_case(n: usize, source: &mut independent::Random, random: &mut Random) -> Case {
     let (cell, recipe) = either_pair(n, FEW_POSITIONS[n / 2 % 4], source);
-    let positions = Sizes::of(&cell, &recipe).positions as usize;
+    let pair = Pair::of(&cell, slice::from_ref(&recipe));
+    let positions = Joined::of(&cell, &[recipe]).sizes.positions as usize;
     Case {
-        pair: Pair::of(&cell, &recipe),
+        pair,
         entries: positions,
         scratch: positions,
         run: vec![0; RUN_BYTES],
@@ -316,7 +318,7 @@ fn expect_of_readers(case: &Case, number: u8) {
 fn expect_of_run(case: &Case, number: u8, random: &mut Random) {
     let round = Round {
         cell: case.pair.cell_bytes(),
-        recipe: case.pair.recipe_bytes(),
+        recipes: case.pair.recipes_bytes(),
         run: case.run.clone(),
         entries: case.entries,
         outcome: case.outcome,
@@ -336,7 +338,7 @@ fn expect_of_run(case: &Case, number: u8, random: &mut Random) {
 fn expect_of_planner(case: &Case, number: u8, random: &mut Random) {
     let handed = Handed {
         cell: case.pair.cell_bytes(),
-        recipe: case.pair.recipe_bytes(),
+        recipes: case.pair.recipes_bytes(),
         entries: case.entries,
         scratch: case.scratch,
     };
@@ -378,7 +380,7 @@ fn rule_23_has_its_place() {
 struct Plan {
     cell: Cell,
     recipe: Recipe,
-    sizes: Sizes,
+    joined: Joined,
     handed: Handed,
     table: Vec<u32>,
 }
@@ -395,11 +397,11 @@ fn seeded_plan(
         if every_point_is_reached(&recipe) && (cell.has_gates() || !gated) {
             let handed = Handed::of(cell_bytes(&cell).to_vec(), recipe_bytes(&recipe).to_vec());
             let table = handed.plan(random).table;
-            let sizes = Sizes::of(&cell, &recipe);
+            let joined = Joined::of(&cell, slice::from_ref(&recipe));
             return Plan {
                 cell,
                 recipe,
-                sizes,
+                joined,
                 handed,
                 table,
             };
@@ -410,13 +412,13 @@ fn seeded_plan(
 impl Plan {
     /// Whether the plan is to carry a point of this kind at a position.
     fn is_carried(&self, kind: u8, position: u64) -> bool {
-        let first = lines_at(&self.recipe, self.sizes.at(position).0)[0];
+        let first = lines_at(&self.recipe, self.joined.run_at(position).point)[0];
         self.recipe.kind[first] == kind && kind_of(self.table[position as usize]) == CARRY
     }
 
     /// Some of the positions, if there are any, at which the plan is to carry a point of this kind.
     fn carries(&self, kind: u8, random: &mut Random) -> Vec<u64> {
-        let positions = 0..self.sizes.positions;
+        let positions = 0..self.joined.sizes.positions;
         let mut positions: Vec<u64> = positions.filter(|&p| self.is_carried(kind, p)).collect();
         random.shuffle(&mut positions);
         positions.truncate(LOOKED_AT);
@@ -438,18 +440,14 @@ impl Plan {
 
     /// The run at a position.
     fn run(&self, position: u64) -> Run {
-        let (point, configuration) = self.sizes.at(position);
-        Run {
-            point,
-            configuration,
-        }
+        self.joined.run_at(position)
     }
 
     /// The calls on a run.
     fn round(&self, run: &Run, outcome: u8) -> Round {
         Round {
             cell: self.handed.cell.clone(),
-            recipe: self.handed.recipe.clone(),
+            recipes: self.handed.recipes.clone(),
             run: run_bytes(run).to_vec(),
             entries: self.table.len(),
             outcome,
@@ -472,10 +470,10 @@ impl Plan {
 
     /// The run that a report leaves, in both forms, which must not refuse it.
     fn reported(&self, run: &Run, outcome: u8) -> [[u8; RUN_BYTES]; 2] {
-        let (cell, recipe, mut left) = (&self.handed.cell, &self.handed.recipe, run_bytes(run));
+        let (cell, recipes, mut left) = (&self.handed.cell, &self.handed.recipes, run_bytes(run));
         let mut record = RunRecord::of(&left).expect("the run is long enough");
-        let first = Library::report(cell, recipe, &self.table, &mut left, outcome);
-        let second = Library::report_record(cell, recipe, &self.table, &mut record, outcome);
+        let first = Library::report(cell, recipes, &self.table, &mut left, outcome);
+        let second = Library::report_record(cell, recipes, &self.table, &mut record, outcome);
         assert_eq!((first, second), (0, 0), "{}", self.round(run, outcome));
         [left, record.bytes()]
     }
@@ -606,7 +604,7 @@ fn each_outcome_of_a_test_follows_its_line() {
                     plan.round(&before, outcome)
                 );
                 // The plan goes on from there.
-                let next = plan.sizes.position(after.point, &after.configuration);
+                let next = plan.joined.position(&after);
                 assert_ne!(plan.table[next as usize], 0);
             }
         }
@@ -657,21 +655,21 @@ fn a_do_follows_operation_lines_alone() {
 fn one_byte_from_the_example() {
     let handed = Handed::of_pair(&gate_example());
     let table = Table::new(handed.plan(&mut Random::new(5)).table);
-    let at_test = [1, 0, 1, 0, 0, 0, 0, 2, 0, 0, 0, 0, 0, 0, 0];
-    let good = [handed.cell.clone(), handed.recipe, at_test.to_vec()];
+    let at_test = [1, 0, 1, 0, 0, 0, 0, 2, 0, 0, 0, 0, 0, 0, 0, 0];
+    let good = [handed.cell.clone(), handed.recipes, at_test.to_vec()];
     // The lines of the cell and one more, which counts for nothing; those of the recipe; the run.
     for (record, places) in [(0, 0..1 + 8 * 5), (1, 0..1 + 5 * 7), (2, 0..RUN_BYTES)] {
         for at in places {
             for byte in 0..=255 {
                 let mut changed = good.clone();
                 changed[record][at] = byte;
-                let [cell, recipe, run] = changed;
+                let [cell, recipes, run] = changed;
                 if record == 0 {
                     read_limits(&cell);
                 }
                 let round = Round {
                     cell,
-                    recipe,
+                    recipes,
                     run,
                     entries: table.entries().len(),
                     outcome: byte % 2,
@@ -705,8 +703,8 @@ fn limits_count_at_either_outcome() {
         for (outcome, state) in [(0, 2), (1, 1)] {
             let mut round = Round {
                 cell: handed.cell.clone(),
-                recipe: handed.recipe.clone(),
-                run: vec![0, 0, 0, 0, 0, 0, 0, 1, 1, 0, 0, 0, 0, 0, 0],
+                recipes: handed.recipes.clone(),
+                run: vec![0, 0, 0, 0, 0, 0, 0, 1, 1, 0, 0, 0, 0, 0, 0, 0],
                 entries: handed.entries,
                 outcome,
                 part: 0,
@@ -714,9 +712,9 @@ fn limits_count_at_either_outcome() {
             let answers = compare(&round, &table);
             assert_eq!((answers.next_move, answers.report), expected(entry, open));
             let Round {
-                cell, recipe, run, ..
+                cell, recipes, run, ..
             } = &mut round;
-            Library::report(cell, recipe, table.entries(), run, outcome);
+            Library::report(cell, recipes, table.entries(), run, outcome);
             let left = if open { [1, state] } else { [0, 0] };
             assert_eq!(run[..2], left);
         }

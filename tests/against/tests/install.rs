@@ -9,13 +9,14 @@ use against::installs::{owed, Installing};
 use against::pairs::{self, either_pair, Pair, NO_LIMITS, PASTED_END, PASTED_LOOP};
 use against::plans::Handed;
 use against::random::Random;
-use against::{scratches, CellFile, RecipeFile, TOO_SHORT, UNREACHED};
+use against::{scratches, CellFile, RecipeFile, REFUSALS, TOO_SHORT, UNREACHED};
 use independent::{
-    candidates, cell_bytes, cell_of_bytes, check, every_point_is_reached, gap_pair, joint_choices,
+    candidates, cell_bytes, cell_of_bytes, every_point_is_reached, gap_pair, joint_choices,
     missing_processes, realisable_by_joint_steps, realisable_by_single_moves, recipe_bytes,
-    recipe_of_bytes, scratch_bytes, Cell, Install, Process, Recipe, Sizes, MOST_LINES,
-    MOST_POSITIONS,
+    recipe_of_bytes, scratch_bytes, single, Cell, Install, Joined, Process, Recipe, Sizes,
+    MOST_LINES, MOST_POSITIONS, RECIPE_BYTES,
 };
+use std::slice;
 
 const BENCH_CELL: &str = include_str!("../../../examples/bench/cell.csv");
 const BENCH_RECIPE: &str = include_str!("../../../examples/bench/recipe.csv");
@@ -53,8 +54,12 @@ const GATE: u32 = 4;
 fn handed_with_noise(pair: &Pair, random: &mut Random) -> Handed {
     let mut handed = Handed::of_pair(pair);
     fill_past_lines::<CellFile>(&mut handed.cell, random);
-    fill_past_lines::<RecipeFile>(&mut handed.recipe, random);
-    handed.scratch = scratches::long_enough(handed.entries, random);
+    fill_past_lines::<RecipeFile>(&mut handed.recipes, random);
+    // What would be further chapters in another call, or a rest, counts for nothing in this one.
+    let behind = random.choose(&[0, 0, 1, RECIPE_BYTES, 9 * RECIPE_BYTES]);
+    let record = handed.recipes.clone();
+    handed.recipes.extend(record.iter().cycle().take(behind));
+    handed.scratch = scratches::long_enough(handed.scratch, random);
     handed.entries += random.choose(&[0, 0, 1, 9]);
     handed
 }
@@ -147,8 +152,8 @@ fn seven_bytes_get_the_first_of_two_lines() {
     let mut list = [0xa5; 9];
     let (mut table, mut scratch) = ([7; 90], [7; 12]);
     let mut install = |list: &mut [u8]| {
-        let Handed { cell, recipe, .. } = &handed;
-        Library::install(cell, recipe, &mut table, &mut scratch, list)
+        let Handed { cell, recipes, .. } = &handed;
+        Library::install(cell, recipes, &mut table, &mut scratch, list)
     };
     assert_eq!(install(&mut list[..7]), 2);
     assert_eq!(list, [0, 0, 1, 1, 0xa5, 0xa5, 0xa5, 0xa5, 0xa5]);
@@ -167,8 +172,8 @@ fn the_bench_example_with_forgotten_points_gets_no_list() {
             let handed = Handed::of_pair(&pair);
             assert_eq!(handed.entries, positions);
             let (mut table, mut scratch, mut list) = ([7; 126], [7; 16], [7; 40]);
-            let Handed { cell, recipe, .. } = &handed;
-            let result = Library::install(cell, recipe, &mut table, &mut scratch, &mut list);
+            let Handed { cell, recipes, .. } = &handed;
+            let result = Library::install(cell, recipes, &mut table, &mut scratch, &mut list);
             assert_eq!(result, 22 << 32);
             assert_eq!((table, scratch, list), ([7; 126], [7; 16], [7; 40]));
             let owed = owed(&handed);
@@ -245,8 +250,7 @@ fn the_rules_are_tried_in_their_order() {
         pair.cell[3][2] = act;
         // The lines behind the first change nothing.
         pair.cell.resize(MOST_LINES, vec![0, 0, INTERNAL, 9, 0]);
-        let (cell, recipe) = pair.records();
-        assert_eq!(realisable_by_single_moves(&cell, &recipe), act == OPERATION);
+        assert_eq!(pair.is_realisable(), act == OPERATION);
         let handed = Handed::of_pair(&pair);
         let no_place = (handed.clone(), 21);
         for (handed, refusal) in handed.ever_more_damaged().into_iter().chain([no_place]) {
@@ -296,7 +300,8 @@ impl Lists {
         let tried = candidates(cell, recipe).len();
         self.most = self.most.max(processes.len());
         self.most_candidates = self.most_candidates.max(tried);
-        if joint_choices(cell, recipe) * (tried as u64 + 1) <= FEW_JOINT_CHOICES {
+        let joined = Joined::of(cell, slice::from_ref(recipe));
+        if joint_choices(cell, &joined) * (tried as u64 + 1) <= FEW_JOINT_CHOICES {
             let found = missing_processes(cell, recipe, realisable_by_joint_steps);
             assert_eq!(found, processes);
             self.by_joint_steps[0] += 1;
@@ -344,12 +349,12 @@ fn lacking_pair(
     random: &mut Random,
 ) -> Pair {
     let (cell, recipe) = either_pair(n, most, source);
-    let mut found = Pair::of(&cell, &recipe);
+    let mut found = Pair::of(&cell, slice::from_ref(&recipe));
     for _ in 0..random.choose(&[0, 8, 8, 8, 8, 8]) {
-        let mut pair = Pair::of(&cell, &recipe);
+        let mut pair = Pair::of(&cell, slice::from_ref(&recipe));
         (0..random.choose(&[1, 1, 1, 2])).for_each(|_| lose_process(&mut pair, random));
-        let (cell, recipe) = pair.records();
-        if check(&cell, &recipe) == 0 {
+        let (cell, recipe) = pair.single();
+        if single::check(&cell, &recipe) == 0 {
             found = pair;
             if !realisable_by_single_moves(&cell, &recipe) {
                 break;
@@ -379,7 +384,7 @@ fn lose_process(pair: &mut Pair, random: &mut Random) {
 /// Adds lines that change nothing, until there are so many: one that is there already, internal work that
 /// leads back to its state, or an operation that the recipe doesn't name. A gate isn't set a second time.
 fn fill_up(pair: &mut Pair, lines: usize, random: &mut Random) {
-    let named: Vec<u32> = pair.recipe.iter().map(|row| row[2]).collect();
+    let named: Vec<u32> = pair.recipes[0].iter().map(|row| row[2]).collect();
     let other = (0..64).find(|operation| !named.contains(operation));
     while pair.cell.len() < lines {
         let count = pair.cell.len();
@@ -417,7 +422,7 @@ fn small_pairs() {
         }
         // Some seeded cells have no place for a line, and some recipes have unreached points.
         match owed.refusal {
-            0 => lists.note(&pair.records(), &owed.processes),
+            0 => lists.note(&pair.single(), &owed.processes),
             UNREACHED => unreached += 1,
             _ => full += 1,
         }
@@ -439,7 +444,7 @@ fn sixty_three_lines_and_sixty_four() {
     let mut full = [[0; 2]; 2];
     for n in 0..FULL_PAIRS {
         let mut pair = lacking_pair(n, 200, &mut source, &mut random);
-        if !every_point_is_reached(&pair.records().1) {
+        if !every_point_is_reached(&pair.single().1) {
             continue;
         }
         // Some seeded cells have 64 lines to begin with.
@@ -449,7 +454,7 @@ fn sixty_three_lines_and_sixty_four() {
             let owed = owed(&handed);
             let length = some_length(&owed.processes, &mut random);
             compare_lengths(handed, &owed, [length], &mut random);
-            lists.note(&pair.records(), &owed.processes);
+            lists.note(&pair.single(), &owed.processes);
         }
         fill_up(&mut pair, MOST_LINES, &mut random);
         let handed = Handed::of_pair(&pair);
@@ -457,9 +462,8 @@ fn sixty_three_lines_and_sixty_four() {
         assert_eq!(owed.refusal, 21, "{handed}");
         let length = random.below(40);
         compare_lengths(handed, &owed, [length], &mut random);
-        let (cell, recipe) = pair.records();
-        let limited = usize::from(cell.limits != NO_LIMITS);
-        full[limited][usize::from(realisable_by_single_moves(&cell, &recipe))] += 1;
+        let limited = usize::from(pair.limits != NO_LIMITS);
+        full[limited][usize::from(pair.is_realisable())] += 1;
     }
     println!("64 lines without limits and with, not realisable and realisable: {full:?}");
     assert!(full.as_flattened().iter().all(|&times| times >= 200));
@@ -509,11 +513,11 @@ fn just_enough_scratch_and_one_byte_less() {
 #[derive(Default)]
 struct Refusals {
     /// Calls by their refusal.
-    all: [usize; 24],
+    all: [usize; REFUSALS],
     /// Those on a record of 64 cell lines.
-    full: [usize; 24],
+    full: [usize; REFUSALS],
     /// Those on a table or a scratch that is too short for the positions, 13 and 22 among them.
-    short: [usize; 24],
+    short: [usize; REFUSALS],
 }
 
 impl Refusals {
@@ -523,8 +527,11 @@ impl Refusals {
         if handed.cell.first() == Some(&(MOST_LINES as u8)) {
             self.full[refusal] += 1;
         }
-        let (cell, recipe) = (cell_of_bytes(&handed.cell), recipe_of_bytes(&handed.recipe));
-        if matches!(check(&cell, &recipe), 0 | 13) {
+        let (cell, recipe) = (
+            cell_of_bytes(&handed.cell),
+            recipe_of_bytes(&handed.recipes),
+        );
+        if matches!(single::check(&cell, &recipe), 0 | 13) {
             let positions = Sizes::of(&cell, &recipe).positions;
             let short = (handed.entries as u64) < positions
                 || (handed.scratch as u64) < scratch_bytes(positions);
@@ -538,7 +545,8 @@ impl Refusals {
         println!("with too little lent {:?}", self.short);
         for refusal in 0..self.all.len() {
             let (least, least_full) = match refusal {
-                1 | 2 | 15..=19 => {
+                // A single recipe is never refused for its number.
+                1 | 2 | 15..=19 | 24 => {
                     assert_eq!(self.all[refusal], 0, "{refusal} cannot be given");
                     continue;
                 }
@@ -570,7 +578,7 @@ fn refusals() {
             1..=4 => pairs::good_pair(400, &mut random),
             _ => {
                 let (cell, recipe) = either_pair(n, 200, &mut source);
-                Pair::of(&cell, &recipe)
+                Pair::of(&cell, slice::from_ref(&recipe))
             }
         };
         if n % 3 > 0 {
@@ -581,7 +589,7 @@ fn refusals() {
             compare(handed, &mut random);
         }
         if n % 8 > 4 {
-            let (cell, recipe) = (pair.cell_bytes(), pair.recipe_bytes());
+            let (cell, recipe) = (pair.cell_bytes(), pair.recipes_bytes());
             compare(Handed::too_short(cell, recipe, &mut random), &mut random);
         }
     }

@@ -6,7 +6,7 @@ use against::damage::seeded_cell;
 use against::generate::{self, limits_rows, Generate, Rows};
 use against::pairs::{limits_leave_range, limits_of, some_limits, Pair, NO_LIMITS};
 use against::random::Random;
-use against::{same_reading, CellFile, Columns, Format, LimitsFile, RecipeFile};
+use against::{same_reading, CellFile, Columns, Format, LimitsFile, RecipeFile, REFUSALS};
 use independent::{cell_of_bytes, check_cell, CELL_BYTES, MOST_RESOURCES, NO_LIMIT};
 
 const BENCH_CELL: &[u8] = include_bytes!("../../../examples/bench/cell.csv");
@@ -74,8 +74,8 @@ struct Seen {
     /// Accepted files after which a resource has no limit that had one before.
     lifted: usize,
     /// Refusals of the file and of the record, by their number.
-    of_file: [usize; 24],
-    of_record: [usize; 24],
+    of_file: [usize; REFUSALS],
+    of_record: [usize; REFUSALS],
     /// Refusals 4 of a record for a limit alone.
     limit_past_range: usize,
     /// Refusals 20 of a file at the first value line and later.
@@ -132,7 +132,7 @@ fn seeded_pair(random: &mut Random) -> Pair {
     Pair {
         cell,
         limits,
-        recipe: vec![],
+        recipes: vec![],
     }
 }
 

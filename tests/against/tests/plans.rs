@@ -7,7 +7,7 @@ use against::pairs::{limits_of, Pair, PASTED_END, PASTED_LOOP, THREE_GIVEN, TWO_
 use against::plans::{Handed, Planned};
 use against::random::Random;
 use against::rounds::accepted;
-use against::{CellFile, Format, RecipeFile};
+use against::{CellFile, Format, RecipeFile, REFUSALS};
 use independent::{
     cell_bytes, dense_pair, long_ways_pair, mixed_pair, recipe_bytes, scratch_bytes, Cell, Recipe,
     Sizes, MOST_POSITIONS, MOST_RESOURCES, RUN_BYTES,
@@ -25,7 +25,7 @@ fn bench() -> Handed {
     assert_eq!(RecipeFile::library(BENCH_RECIPE.as_bytes(), &mut recipe), 0);
     Handed {
         cell,
-        recipe,
+        recipes: recipe,
         entries: 90,
         scratch: 12,
     }
@@ -35,7 +35,7 @@ fn bench() -> Handed {
 fn bench_with(recipe: &[[u32; 7]]) -> Handed {
     let rows: Rows = recipe.iter().map(|line| line.to_vec()).collect();
     Handed {
-        recipe: generate::record::<RecipeFile>(&rows),
+        recipes: generate::record::<RecipeFile>(&rows),
         ..bench()
     }
 }
@@ -45,7 +45,7 @@ fn handed((cell, recipe): &(Cell, Recipe), more: usize) -> Handed {
     let positions = Sizes::of(cell, recipe).positions;
     Handed {
         cell: cell_bytes(cell).to_vec(),
-        recipe: recipe_bytes(recipe).to_vec(),
+        recipes: recipe_bytes(recipe).to_vec(),
         entries: positions as usize + more,
         scratch: scratch_bytes(positions) as usize + more,
     }
@@ -61,12 +61,9 @@ fn the_bench_example_is_planned_and_followed() {
     assert_eq!(table[1], 0);
     assert_eq!(table.iter().filter(|&&entry| entry != 0).count(), 25);
 
-    let (cell, recipe) = (&handed.cell, &handed.recipe);
-    let (_, _, sizes) = accepted(cell, recipe).expect("the bench example is accepted");
-    let position = |run: &[u8]| {
-        let run = independent::run_of_bytes(run);
-        sizes.position(run.point, &run.configuration)
-    };
+    let (cell, recipe) = (&handed.cell, &handed.recipes);
+    let (_, joined) = accepted(cell, recipe).expect("the bench example is accepted");
+    let position = |run: &[u8]| joined.position(&independent::run_of_bytes(run));
     let follow = |moves: &[(u64, u64, u8)], end: u64| {
         let mut run = [0xff; RUN_BYTES];
         assert_eq!(Library::fresh(&mut run), 0);
@@ -131,13 +128,13 @@ fn a_recipe_of_one_end_is_accepted() {
 
 /// Wants 22 of a plan call on records that pass all other rules, whatever it is lent, which it must leave.
 fn expect_unreached(handed: &Handed) {
-    let Handed { cell, recipe, .. } = handed;
-    assert_eq!(Library::check(cell, recipe), 0);
+    let Handed { cell, recipes, .. } = handed;
+    assert_eq!(Library::check(cell, recipes), 0);
     let mut random = Random::new(13);
     for entries in [0, handed.entries - 1, handed.entries, handed.entries + 9] {
         for scratch in [0, handed.scratch - 1, handed.scratch, handed.scratch + 9] {
             let (mut table, mut bytes) = (vec![7; entries], vec![9; scratch]);
-            assert_eq!(Library::plan(cell, recipe, &mut table, &mut bytes), 22);
+            assert_eq!(Library::plan(cell, recipes, &mut table, &mut bytes), 22);
             assert!(table == vec![7; entries] && bytes == vec![9; scratch]);
             let handed = Handed {
                 entries,
@@ -206,7 +203,7 @@ fn points_behind_an_end_and_points_of_several_lines() {
     let pair = |recipe: &[&str]| Pair::of_lines(&cell, &[], recipe);
     let forgotten = |recipe: &[&str]| {
         let pair = pair(recipe);
-        expect_unreached(&Handed::of(pair.cell_bytes(), pair.recipe_bytes()));
+        expect_unreached(&Handed::of_pair(&pair));
     };
     for second in ["1,0,0,0,0,0,0", "1,1,1,0,1,0,0", "1,2,1,1,0,1,1"] {
         forgotten(&["0,0,0,0,0,0,0", second]);
@@ -224,7 +221,7 @@ fn the_rules_are_tried_in_their_order() {
         assert_eq!(handed.plan(&mut random).refusal, refusal, "{handed}");
     };
     // First the test at point 1 wants an operation that the cell hasn't.
-    handed.recipe[1 + 7 + 2] = 9;
+    handed.recipes[1 + 7 + 2] = 9;
     expect(&handed, 15);
     for (handed, refusal) in handed.ever_more_damaged() {
         expect(&handed, refusal);
@@ -233,8 +230,7 @@ fn the_rules_are_tried_in_their_order() {
 
 /// Plans a pair with a table and a scratch that are just long enough.
 fn plan_pair(pair: &Pair) -> Planned {
-    let handed = Handed::of(pair.cell_bytes(), pair.recipe_bytes());
-    handed.plan(&mut Random::new(10))
+    Handed::of_pair(pair).plan(&mut Random::new(10))
 }
 
 #[test]
@@ -260,7 +256,7 @@ fn every_limit_of_every_resource() {
         for most in 0..=255 {
             let mut handed = Handed {
                 cell: pair.cell_bytes(),
-                recipe: pair.recipe_bytes(),
+                recipes: pair.recipes_bytes(),
                 entries: 12,
                 scratch: 2,
             };
@@ -331,15 +327,23 @@ fn so_many_parts_need_so_great_a_limit() {
 #[test]
 fn records_of_every_length() {
     let mut random = Random::new(6);
-    for length in 0..RecipeFile::RECORD_BYTES + 10 {
+    for length in 0..CellFile::RECORD_BYTES + 40 {
         let mut handed = bench();
         handed.cell.resize(length, 0x5a);
         let short = length < CellFile::RECORD_BYTES;
         assert_eq!(handed.plan(&mut random).refusal, if short { 3 } else { 0 });
+    }
+    // Too few bytes are no chapter, and a rest is none either.
+    for length in 0..2 * RecipeFile::RECORD_BYTES + 10 {
         let mut handed = bench();
-        handed.recipe.resize(length, 0x5a);
-        let short = length < RecipeFile::RECORD_BYTES;
-        assert_eq!(handed.plan(&mut random).refusal, if short { 3 } else { 0 });
+        handed.recipes.resize(length, 0x5a);
+        let owed = match length / RecipeFile::RECORD_BYTES {
+            0 => 24,
+            1 => 0,
+            // The second record has more lines than there may be.
+            _ => 3,
+        };
+        assert_eq!(handed.plan(&mut random).refusal, owed, "{length} bytes");
     }
 }
 
@@ -362,7 +366,7 @@ fn shaped(resources: u32, parts: u32, points: u32) -> Handed {
     let positions = points * 2 * (resources + 1).pow(parts);
     Handed {
         cell: generate::record::<CellFile>(&cell),
-        recipe: generate::record::<RecipeFile>(&recipe),
+        recipes: generate::record::<RecipeFile>(&recipe),
         entries: positions as usize,
         scratch: scratch_bytes(positions.into()) as usize,
     }
@@ -371,7 +375,7 @@ fn shaped(resources: u32, parts: u32, points: u32) -> Handed {
 #[test]
 fn every_shape() {
     let mut random = Random::new(7);
-    let mut refusals = [0; 24];
+    let mut refusals = [0; REFUSALS];
     for resources in 1..=6 {
         for parts in 0..=8 {
             for points in 1..=16 {
@@ -419,7 +423,7 @@ fn many_joint_states(stations: u32, points: u32, parts: bool) -> Handed {
     let positions = points * 8u32.pow(stations) * placings;
     Handed {
         cell: generate::record::<CellFile>(&cell),
-        recipe: generate::record::<RecipeFile>(&recipe),
+        recipes: generate::record::<RecipeFile>(&recipe),
         entries: positions as usize,
         scratch: scratch_bytes(positions.into()) as usize,
     }
@@ -452,7 +456,7 @@ fn many_joint_states_and_few_ways_to_place_parts() {
     // Several points without parts are ends that nothing leads to, be they too many for 13 or not.
     for (points, size) in [(4, 0), (5, 13)] {
         let handed = many_joint_states(6, points, false);
-        assert_eq!(Library::check(&handed.cell, &handed.recipe), size);
+        assert_eq!(Library::check(&handed.cell, &handed.recipes), size);
         assert_eq!(handed.plan(&mut random).refusal, 22);
     }
 }

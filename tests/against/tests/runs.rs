@@ -8,8 +8,7 @@ use against::pairs::{full_pair, limits_of, Pair, PASTED_END, PASTED_LOOP, THREE_
 use against::rounds::{accepted, compare, Round, Table};
 use against::{CellFile, Format, RecipeFile, RunRecord};
 use independent::{
-    entry_of, run_bytes, run_of_bytes, Run, CARRY, CELL_BYTES, MOST_POSITIONS, MOST_RESOURCES,
-    RUN_BYTES,
+    entry_of, run_bytes, run_of_bytes, CARRY, CELL_BYTES, MOST_POSITIONS, MOST_RESOURCES, RUN_BYTES,
 };
 
 const BENCH_CELL: &[u8] = include_bytes!("../../../examples/bench/cell.csv");
@@ -42,14 +41,9 @@ fn bench_run(position: u64) -> Vec<u8> {
 }
 
 /// The bytes of the run at a position of records that are accepted.
-fn run_at(cell: &[u8], recipe: &[u8], position: u64) -> Vec<u8> {
-    let (_, _, sizes) = accepted(cell, recipe).expect("the records are accepted");
-    let (point, configuration) = sizes.at(position);
-    run_bytes(&Run {
-        point,
-        configuration,
-    })
-    .to_vec()
+fn run_at(cell: &[u8], recipes: &[u8], position: u64) -> Vec<u8> {
+    let (_, joined) = accepted(cell, recipes).expect("the records are accepted");
+    run_bytes(&joined.run_at(position)).to_vec()
 }
 
 /// Follows the bench example's run from the start to its end. The recipe may have further points, which the
@@ -153,7 +147,7 @@ fn rules_from_14_on_are_tried_in_their_order() {
     let mut gone = end.clone();
     gone[0] = 5;
     assert_eq!(all(&blank, &gone, 2), both(16));
-    assert_eq!(all(&blank, &gone[..14], 2), both(16));
+    assert_eq!(all(&blank, &gone[..15], 2), both(16));
     assert_eq!(all(&blank[..89], &gone, 2), both(14));
     assert_eq!(Library::place(&cell, &recipe, &gone, 0), 16 * 256 + 255);
     assert_eq!(Library::place(&cell, &recipe, &gone, 9), 16 * 256 + 255);
@@ -179,14 +173,14 @@ fn the_cell_is_judged_before_the_recipe_and_both_before_the_rest() {
 /// The answers of a next-move call and a report at a position of records that are accepted, in a table
 /// with this entry there. Both calls must answer as the independent program's do.
 fn answers_at(pair: &Pair, position: u64, entry: u32) -> (u64, u32) {
-    let (cell, recipe) = (pair.cell_bytes(), pair.recipe_bytes());
-    let (_, _, sizes) = accepted(&cell, &recipe).expect("the pair is accepted");
-    let mut table = Table::new(vec![0; sizes.positions as usize]);
+    let (cell, recipes) = (pair.cell_bytes(), pair.recipes_bytes());
+    let (_, joined) = accepted(&cell, &recipes).expect("the pair is accepted");
+    let mut table = Table::new(vec![0; joined.sizes.positions as usize]);
     table.set(position, entry);
     let round = Round {
-        run: run_at(&cell, &recipe, position),
+        run: run_at(&cell, &recipes, position),
         cell,
-        recipe,
+        recipes,
         entries: table.entries().len(),
         outcome: 1,
         part: 0,
@@ -274,7 +268,7 @@ fn compare_outcomes(cell: &[u8], recipe: &[u8], run: &[u8], table: &Table) {
     for (outcome, part) in [(0, 0), (1, 1), (2, 255)] {
         let round = Round {
             cell: cell.to_vec(),
-            recipe: recipe.to_vec(),
+            recipes: recipe.to_vec(),
             run: run.to_vec(),
             entries: table.entries().len(),
             outcome,
@@ -310,7 +304,7 @@ fn one_byte_from_the_bench_example() {
 #[test]
 fn every_limit_and_every_place_of_two_parts() {
     let pair = nest(1);
-    let (mut cell, recipe) = (pair.cell_bytes(), pair.recipe_bytes());
+    let (mut cell, recipe) = (pair.cell_bytes(), pair.recipes_bytes());
     let mut table = Table::new(vec![50_331_648; 12]);
     (8..12).for_each(|position| table.set(position, 67_108_864));
     for k in 0..MOST_RESOURCES {
@@ -353,8 +347,10 @@ fn slices_of_every_length() {
         compare_outcomes(&longer(&cell)[..length], &recipe, &run, &table);
         compare_outcomes(&longer(&cell)[..length], &recipe[..9], &run, &table);
     }
-    for length in 0..RecipeFile::RECORD_BYTES + 20 {
-        compare_outcomes(&cell, &longer(&recipe)[..length], &run, &table);
+    // From two records on there are two chapters.
+    let twice = longer(&[&recipe[..], &recipe].concat());
+    for length in 0..=twice.len() {
+        compare_outcomes(&cell, &twice[..length], &run, &table);
     }
     for length in 0..RUN_BYTES + 20 {
         compare_outcomes(&cell, &recipe, &longer(&run)[..length], &table);
@@ -362,7 +358,7 @@ fn slices_of_every_length() {
     for length in 0..=90 {
         let shorter = Table::new(table.entries()[..length].to_vec());
         compare_outcomes(&cell, &recipe, &run, &shorter);
-        compare_outcomes(&cell, &recipe, &run[..14], &shorter);
+        compare_outcomes(&cell, &recipe, &run[..15], &shorter);
     }
 }
 
@@ -374,21 +370,21 @@ fn a_fresh_run_is_written_whole_or_not_at_all() {
         let refusal = Library::fresh(&mut run);
         assert_eq!(refusal, Independent::fresh(&mut expected));
         assert_eq!(run, expected);
-        assert_eq!(refusal, if length < 15 { 14 } else { 0 });
+        assert_eq!(refusal, if length < 16 { 14 } else { 0 });
     }
 }
 
 #[test]
 fn four_parallel_lines_have_a_station_each() {
     let pair = full_pair();
-    let (cell, recipe) = (pair.cell_bytes(), pair.recipe_bytes());
-    let (_, _, sizes) = accepted(&cell, &recipe).expect("the pair is accepted");
-    let run = [15, 0, 0, 0, 0, 0, 0, 1, 2, 3, 4, 0, 0, 0, 0];
-    let position = sizes.position(15, &run_of_bytes(&run).configuration);
-    let mut table = Table::new(vec![0; sizes.positions as usize]);
+    let (cell, recipes) = (pair.cell_bytes(), pair.recipes_bytes());
+    let (_, joined) = accepted(&cell, &recipes).expect("the pair is accepted");
+    let run = [15, 0, 0, 0, 0, 0, 0, 1, 2, 3, 4, 0, 0, 0, 0, 0];
+    let position = joined.position(&run_of_bytes(&run));
+    let mut table = Table::new(vec![0; joined.sizes.positions as usize]);
     let round = Round {
         cell,
-        recipe,
+        recipes,
         run: run.to_vec(),
         entries: table.entries().len(),
         outcome: 0,
@@ -426,11 +422,11 @@ fn the_greatest_table_is_read_to_its_end() {
     let positions = MOST_POSITIONS as usize;
     let mut table = Table::new(vec![0; positions + 1]);
     table.set(MOST_POSITIONS - 1, 67_108_864);
-    let (cell, recipe) = records_of(&[4, 4, 4], 16, 5);
+    let (cell, recipes) = records_of(&[4, 4, 4], 16, 5);
     let mut round = Round {
         cell,
-        recipe,
-        run: vec![15, 3, 3, 3, 0, 0, 0, 3, 3, 3, 3, 3, 0, 0, 0],
+        recipes,
+        run: vec![15, 3, 3, 3, 0, 0, 0, 3, 3, 3, 3, 3, 0, 0, 0, 0],
         entries: positions,
         outcome: 1,
         part: 4,

@@ -12,9 +12,9 @@ use against::random::Random;
 use against::rounds::{accepted, compare, Round, Table};
 use against::{same_reading, CellFile, Format, RecipeFile};
 use independent::{
-    check, reached_points, realisable_by_single_moves, run_bytes, stored_table, Book, MOST_LINES,
-    MOST_RESOURCES, RUN_BYTES,
+    check, reached_points, run_bytes, stored_table, Book, MOST_LINES, MOST_RESOURCES, RUN_BYTES,
 };
+use std::slice;
 
 /// The act of a gate.
 const GATE: u32 = 4;
@@ -37,19 +37,19 @@ fn forgetful_pair(n: usize, source: &mut independent::Random, random: &mut Rando
         0 => good_pair(most, random),
         _ => {
             let (cell, recipe) = either_pair(n, most, source);
-            Pair::of(&cell, &recipe)
+            Pair::of(&cell, slice::from_ref(&recipe))
         }
     };
-    pair.recipe = forgetful(&pair.recipe, random);
+    pair.recipes[0] = forgetful(&pair.recipes[0], random);
     pair
 }
 
 /// A call on a pair that breaks this one of the rules 3 to 13; none if it doesn't.
 fn refused(pair: &Pair, rule: u8, random: &mut Random) -> Option<Handed> {
-    let (cell, recipe) = pair.records();
-    (check(&cell, &recipe) == rule).then(|| Handed {
+    let (cell, chapters) = pair.records();
+    (check(&cell, &chapters) == rule).then(|| Handed {
         cell: pair.cell_bytes(),
-        recipe: pair.recipe_bytes(),
+        recipes: pair.recipes_bytes(),
         entries: random.below(200),
         scratch: random.below(200),
     })
@@ -57,7 +57,7 @@ fn refused(pair: &Pair, rule: u8, random: &mut Random) -> Option<Handed> {
 
 /// Leads past the last point. The unreached point stays so, as nothing leads to more points than before.
 fn past_the_points(mut pair: Pair, random: &mut Random) -> Option<Handed> {
-    RecipeFile::break_rule(12, &mut pair.recipe, random);
+    RecipeFile::break_rule(12, &mut pair.recipes[0], random);
     refused(&pair, 12, random)
 }
 
@@ -95,8 +95,7 @@ fn not_realisable(mut pair: Pair, _: &mut Random) -> Option<Handed> {
 }
 
 fn realisable(pair: Pair, _: &mut Random) -> Option<Handed> {
-    let (cell, recipe) = pair.records();
-    realisable_by_single_moves(&cell, &recipe).then(|| Handed::of_pair(&pair))
+    pair.is_realisable().then(|| Handed::of_pair(&pair))
 }
 
 /// Says everything more than once but for the gates, so that the cell has no place for a line.
@@ -181,12 +180,12 @@ impl Runs {
 
 /// Wants the recipe to be read from its file and checked as any other.
 fn read_and_check(pair: &Pair) {
-    let file = file::<RecipeFile>(&pair.recipe);
+    let file = file::<RecipeFile>(&pair.recipes[0]);
     let buffer = [0x5a; RecipeFile::RECORD_BYTES];
     let reading = same_reading(&file, &buffer, RecipeFile::library, RecipeFile::independent);
-    let recipe = pair.recipe_bytes();
-    assert_eq!(Library::check(&pair.cell_bytes(), &recipe), 0);
-    assert_eq!(reading, (0, recipe));
+    let recipes = pair.recipes_bytes();
+    assert_eq!(Library::check(&pair.cell_bytes(), &recipes), 0);
+    assert_eq!(reading, (0, recipes));
 }
 
 /// Makes reports until one is refused, and wants each call to be answered as the independent program and
@@ -201,9 +200,9 @@ fn follow(round: &mut Round, table: &Table, mut book: Book, random: &mut Random)
         let expected = (0, entry, u32::from(report.refusal));
         let given = (answers.check, answers.next_move, answers.report);
         assert_eq!(given, expected, "{round}");
-        let Round { cell, recipe, .. } = &*round;
+        let Round { cell, recipes, .. } = &*round;
         let mut run = round.run.clone();
-        Library::report(cell, recipe, table.entries(), &mut run, round.outcome);
+        Library::report(cell, recipes, table.entries(), &mut run, round.outcome);
         assert_eq!(run, run_bytes(&report.run), "{round}");
         if report.refusal != 0 {
             return (reports, report.refusal);
@@ -216,30 +215,30 @@ fn follow(round: &mut Round, table: &Table, mut book: Book, random: &mut Random)
 /// Runs a recipe with the table that was stored for it: from the start, and from an unreached point if it
 /// has an entry there.
 fn run_stored(pair: &Pair, random: &mut Random, seen: &mut Runs) {
-    let (cell, recipe) = (pair.cell_bytes(), pair.recipe_bytes());
-    let records = accepted(&cell, &recipe).expect("the pair passes the rules 3 to 13");
-    let table = Table::new(stored_table(&records.0, &records.1));
+    let (cell, recipes) = (pair.cell_bytes(), pair.recipes_bytes());
+    let (of_cell, joined) = accepted(&cell, &recipes).expect("the pair passes the rules 3 to 13");
+    let table = Table::new(stored_table(&of_cell, &joined));
     let entries = table.entries();
     let mut round = Round {
         cell,
-        recipe,
+        recipes,
         run: vec![0xff; RUN_BYTES],
         entries: entries.len(),
         outcome: 0,
         part: 0,
     };
     assert_eq!(Library::fresh(&mut round.run), 0);
-    let book = Book::new(&records.0, &records.1, entries);
+    let book = Book::new(&of_cell, &joined, entries);
     seen.note_from_start(follow(&mut round, &table, book, random));
 
-    let reached = reached_points(&records.1);
-    let is_forgotten = |&p: &u64| !reached[usize::from(records.2.at(p).0)];
+    let reached = reached_points(&joined.chapters[0]);
+    let is_forgotten = |&p: &u64| !reached[usize::from(joined.run_at(p).point)];
     let has_entry = |&p: &u64| entries[p as usize] != 0;
-    let forgotten = (0..records.2.positions).filter(|p| is_forgotten(p) && has_entry(p));
+    let forgotten = (0..joined.sizes.positions).filter(|p| is_forgotten(p) && has_entry(p));
     let forgotten: Vec<u64> = forgotten.collect();
     if !forgotten.is_empty() {
         let position = random.choose(&forgotten);
-        let book = Book::from_position(&records.0, &records.1, entries, position);
+        let book = Book::from_position(&of_cell, &joined, entries, position);
         round.run = run_bytes(&book.run()).to_vec();
         seen.note_from_unreached(follow(&mut round, &table, book, random));
     }

@@ -8,7 +8,7 @@
 use against::generate::{self, Generate, Rows};
 use against::pairs::{PASTED_END, PASTED_LOOP};
 use against::random::Random;
-use against::{CellFile, Columns, RecipeFile};
+use against::{CellFile, Columns, RecipeFile, REFUSALS as ALL_REFUSALS};
 use independent::{cell_bytes, likely_pair, recipe_bytes};
 use std::fmt::{Display, Formatter, Result};
 use std::fs::{self, File};
@@ -268,7 +268,7 @@ fn some_case(random: &mut Random) -> Case {
 fn seeded_files_and_inputs() {
     let mut random = Random::new(41);
     let folder = folder("seeded");
-    let mut seen = [0; 24];
+    let mut seen = [0; ALL_REFUSALS];
     let mut moves = 0;
     for _ in 0..RUNS {
         let printed = some_case(&mut random).compare(&folder);

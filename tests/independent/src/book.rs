@@ -1,45 +1,50 @@
-//! The book that a list of calls is held against. It is fed the cell, the recipe, the table and the
+//! The book that a list of calls is held against. It is fed the cell, the chapters, the table and the
 //! calls with their outcomes, and no run and no answer. What a move makes is written here a second
-//! time, from the book's own sentences.
+//! time, from the book's own sentences, and so is the way from one chapter to the next.
 
 use crate::cell::Cell;
 use crate::entry::{is_open, kind_of, letters_of, CARRY, TRANSFER};
+use crate::joined::Joined;
 use crate::limits::is_overfull;
 use crate::recipe::{Recipe, DO, END, TEST};
 use crate::run::{NextMove, Report, Run};
-use crate::sizes::{Configuration, Sizes, MOST_PARTS};
+use crate::sizes::{Configuration, MOST_PARTS};
 
-/// A book over a cell and a recipe that pass the rules 3 to 13, and a table of at least M entries.
+/// A book over a cell and chapters that pass the rules before 14, and a table with an entry for each of their
+/// positions at least.
 pub struct Book<'a> {
     cell: &'a Cell,
-    recipe: &'a Recipe,
+    joined: &'a Joined,
     table: &'a [u32],
-    sizes: Sizes,
+    chapter: u8,
     point: u8,
     configuration: Configuration,
     silent: u64,
 }
 
 impl<'a> Book<'a> {
-    /// The book that begins at point 0, every state 0 and every part outside.
-    pub fn new(cell: &'a Cell, recipe: &'a Recipe, table: &'a [u32]) -> Book<'a> {
-        Book::from_position(cell, recipe, table, 0)
+    /// The book that begins at point 0 of chapter 0, every state 0 and every part outside.
+    pub fn new(cell: &'a Cell, joined: &'a Joined, table: &'a [u32]) -> Book<'a> {
+        Book::from_position(cell, joined, table, 0)
     }
 
-    /// The book for a list that begins at another position, which is below M.
+    /// The book for a list that begins at another position of the table.
     pub fn from_position(
         cell: &'a Cell,
-        recipe: &'a Recipe,
+        joined: &'a Joined,
         table: &'a [u32],
         position: u64,
     ) -> Book<'a> {
-        let sizes = Sizes::of(cell, recipe);
-        let (point, configuration) = sizes.at(position);
+        let Run {
+            point,
+            configuration,
+            chapter,
+        } = joined.run_at(position);
         Book {
             cell,
-            recipe,
+            joined,
             table,
-            sizes,
+            chapter,
             point,
             configuration,
             silent: 0,
@@ -66,21 +71,32 @@ impl<'a> Book<'a> {
         self.kind() == TEST && self.open_move().is_some_and(has_gate)
     }
 
-    /// The point and the configuration that the book keeps.
+    /// Whether the book is at an end of a chapter that isn't the last, where only a list can put it that begins
+    /// there.
+    pub fn is_at_joint(&self) -> bool {
+        self.kind() == END && !self.is_in_last_chapter()
+    }
+
+    /// The point, the configuration and the chapter that the book keeps.
     pub fn run(&self) -> Run {
         Run {
             point: self.point,
             configuration: self.configuration,
+            chapter: self.chapter,
         }
     }
 
-    /// The book's move, if it is open.
+    /// The recipe of the book's chapter.
+    fn recipe(&self) -> &'a Recipe {
+        &self.joined.chapters[usize::from(self.chapter)]
+    }
+
+    /// The book's move, if it is open. The table has the chapters' positions one after another.
     fn open_move(&self) -> Option<u32> {
-        let position = self.sizes.position(self.point, &self.configuration);
-        let entry = self.table[position as usize];
+        let entry = self.table[self.joined.position(&self.run()) as usize];
         let open = is_open(
             self.cell,
-            self.recipe,
+            self.recipe(),
             self.point,
             &self.configuration,
             entry,
@@ -121,12 +137,12 @@ impl<'a> Book<'a> {
 
     /// The kind of the book's point.
     fn kind(&self) -> u8 {
-        self.recipe.kind[self.first_line()]
+        self.recipe().kind[self.first_line()]
     }
 
     /// The first recipe line of the book's point.
     fn first_line(&self) -> usize {
-        let points = self.recipe.point.iter();
+        let points = self.recipe().point.iter();
         points.take_while(|&&point| point != self.point).count()
     }
 
@@ -161,8 +177,8 @@ impl<'a> Book<'a> {
     }
 
     fn carry(&mut self, letters: [usize; 4], outcome: u8) {
-        let (kind, first) = (self.kind(), self.first_line());
-        let points = &self.recipe.point[first..usize::from(self.recipe.count)];
+        let (recipe, kind, first) = (self.recipe(), self.kind(), self.first_line());
+        let points = &recipe.point[first..usize::from(recipe.count)];
         let lines = points.iter().take_while(|&&p| p == self.point).count();
         match (kind, outcome) {
             (TEST, 0) => self.take(letters[1]),
@@ -171,18 +187,32 @@ impl<'a> Book<'a> {
         }
         if kind == DO {
             for n in first..first + lines {
-                self.put(self.recipe.takes[n], 0);
+                self.put(recipe.takes[n], 0);
             }
             for (n, &letter) in letters[..lines].iter().enumerate() {
                 let place = 1 + self.cell.resource[letter];
-                self.put(self.recipe.gives[first + n], place);
+                self.put(recipe.gives[first + n], place);
             }
         }
         self.point = match (kind, outcome) {
-            (TEST, 0) => self.recipe.otherwise[first],
-            _ => self.recipe.then[first],
+            (TEST, 0) => recipe.otherwise[first],
+            _ => recipe.then[first],
         };
         self.silent = 0;
+        self.go_on_from_end();
+    }
+
+    /// What reaches an end of a chapter that isn't the last is at point 0 of the next. That is no move, and
+    /// leaves the count.
+    fn go_on_from_end(&mut self) {
+        if self.is_at_joint() {
+            self.chapter += 1;
+            self.point = 0;
+        }
+    }
+
+    fn is_in_last_chapter(&self) -> bool {
+        usize::from(self.chapter) + 1 == self.joined.chapters.len()
     }
 
     /// Puts the parts of a sum, in which part n counts 2^n, at a place.
@@ -198,22 +228,26 @@ impl<'a> Book<'a> {
 #[cfg(test)]
 mod tests {
     use super::*;
-    use crate::fixtures::{bench, bench_table, gate, lane, limited, planned, some_table};
+    use crate::fixtures::{
+        bench, bench_chapters, bench_table, gate, lane, limited, only_chapter, planned_chapters,
+        some_table, BENCH_RECIPE, GIVING, TESTING,
+    };
     use crate::random::Random;
 
     /// Feeds a list of calls to the run and to the book and compares every answer. Gives how many
     /// moves of each kind were issued.
     fn compare_list(
-        (cell, recipe): &(Cell, Recipe),
+        (cell, joined): &(Cell, Joined),
         table: &[u32],
         start: u64,
         random: &mut Random,
     ) -> [usize; 5] {
-        let mut book = Book::from_position(cell, recipe, table, start);
+        let chapters = &joined.chapters[..];
+        let mut book = Book::from_position(cell, joined, table, start);
         let mut run = book.run();
         let mut issued = [0; 5];
         for _ in 0..60 {
-            let next_move = run.next_move(cell, recipe, table);
+            let next_move = run.next_move(cell, chapters, table);
             assert_eq!(next_move, book.next_move());
             if random.below(3) == 0 {
                 continue;
@@ -222,7 +256,7 @@ mod tests {
                 0 => random.bits() as u8,
                 _ => random.below(2) as u8,
             };
-            let report = run.report(cell, recipe, table, outcome);
+            let report = run.report(cell, chapters, table, outcome);
             assert_eq!(report, book.report(outcome));
             run = report.run;
             if report.refusal == 0 {
@@ -232,14 +266,20 @@ mod tests {
         issued
     }
 
+    /// The bench example's cell with three chapters, of which the last has a loop.
+    fn three_chapters() -> (Cell, Joined) {
+        bench_chapters(&[&GIVING, &TESTING, &BENCH_RECIPE])
+    }
+
     #[test]
     fn the_run_answers_as_the_book_does() {
         let mut random = Random(11);
         let mut issued = [0; 5];
         let (cell, recipe) = lane();
         let narrow = (limited(cell, &[2, 1, 1]), recipe);
-        for example in [bench(), lane(), narrow, gate()] {
-            let positions = Sizes::of(&example.0, &example.1).positions;
+        let single = [bench(), lane(), narrow, gate()].map(only_chapter);
+        for example in single.into_iter().chain([three_chapters()]) {
+            let positions = example.1.sizes.positions;
             for _ in 0..5 {
                 let table = some_table(&example.0, &example.1, &mut random);
                 for start in (0..positions).chain([0; 50]) {
@@ -260,11 +300,11 @@ mod tests {
 
     #[test]
     fn the_bench_example_keeps_its_promises_on_every_outcome() {
-        let (cell, recipe) = bench();
+        let (cell, joined) = only_chapter(bench());
         let table = bench_table();
         let mut random = Random(12);
         for _ in 0..200 {
-            let mut book = Book::new(&cell, &recipe, &table);
+            let mut book = Book::new(&cell, &joined, &table);
             for _ in 0..40 {
                 assert_eq!(book.next_move().refusal, 0);
                 let at_end = book.run().point == 4;
@@ -277,10 +317,10 @@ mod tests {
 
     #[test]
     fn outcome_0_of_a_test_follows_the_gate() {
-        let (cell, recipe) = gate();
-        let (_, table) = planned(&cell, &recipe);
+        let (cell, joined) = only_chapter(gate());
+        let (_, table) = planned_chapters(&cell, &joined);
         for (outcome, point, state) in [(0, 3, 3), (1, 2, 2)] {
-            let mut book = Book::new(&cell, &recipe, &table);
+            let mut book = Book::new(&cell, &joined, &table);
             for at_gate in [false, false, true] {
                 assert_eq!(book.is_at_gate(), at_gate);
                 assert_eq!(book.report(outcome).refusal, 0);
@@ -296,14 +336,60 @@ mod tests {
 
     #[test]
     fn silent_moves_are_counted_until_a_carry() {
-        let (cell, recipe) = bench();
+        let (cell, joined) = only_chapter(bench());
         let table = bench_table();
-        let mut book = Book::new(&cell, &recipe, &table);
+        let mut book = Book::new(&cell, &joined, &table);
         let counts = [0, 1, 0, 0].map(|count| {
             assert_eq!(book.report(1).refusal, 0);
             assert_eq!(book.report(2).refusal, 17);
             (book.silent_moves(), count)
         });
         assert!(counts.iter().all(|(counted, count)| counted == count));
+    }
+
+    #[test]
+    fn a_report_that_reaches_an_earlier_end_leaves_the_book_at_the_next_chapter() {
+        let (cell, joined) = three_chapters();
+        let (refusal, table) = planned_chapters(&cell, &joined);
+        assert_eq!(refusal, 0);
+        for outcome in [0, 1] {
+            let mut book = Book::new(&cell, &joined, &table);
+            let way = [0, 0, outcome, 0, 0, 0, 1, 0].map(|outcome| {
+                let report = book.report(outcome);
+                assert_eq!(report.refusal, 0);
+                (report.run.chapter, report.run.point, book.silent_moves())
+            });
+            let tested = if outcome == 0 { 2 } else { 1 };
+            let first = [(1, 0, 0), (1, 0, 1), (1, tested, 0), (2, 0, 0)];
+            let last = [(2, 1, 0), (2, 1, 1), (2, 2, 0), (2, 4, 0)];
+            assert_eq!(way, [first, last].concat()[..]);
+            assert_eq!((book.report(0).refusal, book.report(7).refusal), (19, 17));
+        }
+    }
+
+    #[test]
+    fn a_book_that_begins_at_an_earlier_end_stays_there() {
+        let (cell, joined) = three_chapters();
+        let (_, mut table) = planned_chapters(&cell, &joined);
+        let stays: Vec<u64> = (18..36).filter(|&p| table[p as usize] != 0).collect();
+        assert!(!stays.is_empty() && stays.len() < 18);
+        for position in 18..36 {
+            let alive = stays.contains(&position);
+            let book = |table| Book::from_position(&cell, &joined, table, position);
+            let owed = if alive { (0, 67_108_864) } else { (18, 0) };
+            let next_move = book(&table).next_move();
+            assert_eq!((next_move.refusal, next_move.entry), owed);
+            let report = book(&table).report(1);
+            let owed = if alive { 19 } else { 18 };
+            assert_eq!((report.refusal, report.run.point), (owed, 1));
+            assert_eq!(book(&table).report(2).refusal, 17);
+            table[position as usize] = 50_331_648;
+            assert_eq!(
+                Book::from_position(&cell, &joined, &table, position)
+                    .report(1)
+                    .refusal,
+                18
+            );
+        }
     }
 }

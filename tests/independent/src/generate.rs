@@ -1,26 +1,31 @@
 //! Cells and recipes that fit each other, many of which are realisable. A recipe is written along a
-//! walk through its cell, so that there is a way for it; then some pairs are damaged in a place or
-//! more. There are cells with limits and without, and more than a third of them have gates. One recipe in
-//! ten has points that are not reached from point 0, the others have none.
+//! walk through its cell, so that there is a way for it, and a further chapter along a walk that goes on where
+//! the one before ended; then some are damaged in a place or more. There are cells with limits and without, and
+//! more than a third of them have gates. One recipe in ten has points that are not reached from point 0, the
+//! others have none.
 
 mod cell_lines;
 mod chains;
+mod cut;
 mod great;
 mod walk;
 
 pub use chains::chain_pair;
+pub use cut::{cut, Cut};
 pub use great::{
     dense_pair, gap_pair, long_ways_pair, mixed_pair, odometer_pair, stations_reversed, with_gates,
 };
 
 use crate::cell::{cell_bytes, cell_of_bytes, Cell, GATE, NO_LIMIT};
+use crate::chapters::check;
+use crate::joined::Joined;
 use crate::random::Random;
 use crate::recipe::{
     every_point_is_reached, recipe_of_bytes, Recipe, END, MOST_PARALLEL, RECIPE_BYTES,
 };
-use crate::run::check;
-use crate::sizes::{Sizes, MOST_PARTS, MOST_RESOURCES};
+use crate::sizes::{Configuration, MOST_PARTS, MOST_RESOURCES};
 use crate::table::MOST_LINES;
+use walk::{Chapter, Ends};
 
 /// A value line of a cell, and one of a recipe.
 type CellLine = [u8; 5];
@@ -58,43 +63,76 @@ pub fn limited_pair(most_positions: u64, random: &mut Random) -> (Cell, Recipe) 
 }
 
 fn pair(most_positions: u64, limits: bool, random: &mut Random) -> (Cell, Recipe) {
+    let (cell, mut chapters) = chapters(most_positions, limits, 1, random);
+    (cell, chapters.remove(0))
+}
+
+/// A cell without limits and so many chapters, seldom fewer, each of at most this many positions, 50 or more,
+/// that pass the rules before 14.
+pub fn likely_chapters(
+    most_positions: u64,
+    count: usize,
+    random: &mut Random,
+) -> (Cell, Vec<Recipe>) {
+    chapters(most_positions, false, count, random)
+}
+
+/// The same with limits at some of the stations, most of which leave too little room for all parts.
+pub fn limited_chapters(
+    most_positions: u64,
+    count: usize,
+    random: &mut Random,
+) -> (Cell, Vec<Recipe>) {
+    chapters(most_positions, true, count, random)
+}
+
+fn chapters(
+    most_positions: u64,
+    limits: bool,
+    count: usize,
+    random: &mut Random,
+) -> (Cell, Vec<Recipe>) {
     // A planner refuses every recipe with an unreached point, so chance alone would leave too few others.
     let forgets = random.once_in(FORGETFUL);
     // Not every cell has an operation at which there can be a gate, and some lose theirs.
     let gates = random.choose(&[true, true, false, false]);
     let extras = Extras { limits, gates };
-    let is_wanted = |recipe: &Recipe| every_point_is_reached(recipe) != forgets;
+    let is_wanted = |chapters: &[Recipe]| chapters.iter().all(every_point_is_reached) != forgets;
     let likely = loop {
-        let lines = likely_lines(most_positions, extras, random);
-        if is_wanted(&recipe_of_lines(&lines.recipe)) {
+        let lines = likely_lines(most_positions, extras, count, random);
+        if is_wanted(&lines.records().1) {
             break lines;
         }
     };
     let tries = random.choose(&[0, 8]);
     for _ in 0..tries {
-        let (cell, recipe) = damaged_pair(likely.clone(), extras, random);
-        let fits = || Sizes::of(&cell, &recipe).positions <= most_positions;
-        if check(&cell, &recipe) == 0 && fits() && is_wanted(&recipe) {
-            return (cell, recipe);
+        let (cell, chapters) = likely.clone().damaged(extras, random).records();
+        let fits = || Joined::of(&cell, &chapters).greatest_positions() <= most_positions;
+        if check(&cell, &chapters) == 0 && fits() && is_wanted(&chapters) {
+            return (cell, chapters);
         }
     }
-    (
-        limited_cell(&likely.cell, likely.limits),
-        recipe_of_lines(&likely.recipe),
-    )
+    likely.records()
 }
 
-/// The value lines of a cell, its limits, and the value lines of a recipe.
+/// The value lines of a cell, its limits, and the value lines of each chapter.
 #[derive(Clone)]
 struct Lines {
     cell: Vec<CellLine>,
     limits: Limits,
-    recipe: Vec<RecipeLine>,
+    chapters: Vec<Vec<RecipeLine>>,
 }
 
-/// The lines of a cell and of a recipe for which there is a way, unless its points were too few or the
+impl Lines {
+    fn records(&self) -> (Cell, Vec<Recipe>) {
+        let chapters = self.chapters.iter().map(|lines| recipe_of_lines(lines));
+        (limited_cell(&self.cell, self.limits), chapters.collect())
+    }
+}
+
+/// The lines of a cell and of chapters for which there is a way, unless their points were too few or the
 /// limits or the gates were not looked at.
-fn likely_lines(most_positions: u64, extras: Extras, random: &mut Random) -> Lines {
+fn likely_lines(most_positions: u64, extras: Extras, count: usize, random: &mut Random) -> Lines {
     let only_ends = random.below(40);
     let mut tries = 0;
     loop {
@@ -112,21 +150,83 @@ fn likely_lines(most_positions: u64, extras: Extras, random: &mut Random) -> Lin
         if extras.gates && random.once_in(3) {
             looked_at = without_gates(&looked_at);
         }
-        let recipe = match only_ends {
-            0 => vec![END_LINE],
-            1 => (0..shape.points as u8)
-                .map(|point| numbered(END_LINE, point))
-                .collect(),
-            _ => walk::recipe_lines(&looked_at, &shape, random),
-        };
+        let chapters = likely_chapter_lines(&looked_at, &shape, count, only_ends, random);
         tries += 1;
-        if recipe.len() > 1 || only_ends < 2 || tries == MOST_TRIES {
+        let does_something = chapters.len() == count && chapters[0].len() > 1;
+        if does_something || only_ends < 2 && count == 1 || tries == MOST_TRIES {
             return Lines {
                 cell,
                 limits,
-                recipe,
+                chapters,
             };
         }
+    }
+}
+
+/// The lines of so many chapters, or of fewer where one finds nothing to do and so has to be the last. If
+/// `only_ends` is 0 or 1 the last is made of ends alone.
+fn likely_chapter_lines(
+    cell: &Cell,
+    shape: &Shape,
+    count: usize,
+    only_ends: usize,
+    random: &mut Random,
+) -> Vec<Vec<RecipeLine>> {
+    let mut chapters: Vec<Vec<RecipeLine>> = vec![];
+    let mut from = Configuration::START;
+    // The chapters mostly go on from each other; but each may begin anew, or be the first again.
+    let style = if count > 1 { random.below(16) } else { 0 };
+    while chapters.len() + 1 < count {
+        let chapter = match (style, chapters.first()) {
+            (1, Some(first)) => Chapter {
+                lines: first.clone(),
+                ended: None,
+            },
+            _ => earlier_chapter(cell, shape, from, random),
+        };
+        let begins_with_end = chapter.lines[0][1] == END;
+        chapters.push(chapter.lines);
+        if begins_with_end {
+            return chapters;
+        }
+        if style > 1 {
+            from = chapter.ended.unwrap_or(from);
+        }
+    }
+    chapters.push(match (style, chapters.first()) {
+        _ if only_ends < 2 => end_lines(only_ends, shape),
+        (1, Some(first)) => first.clone(),
+        _ => walk::chapter_lines(cell, shape, from, Ends::Anywhere, random).lines,
+    });
+    chapters
+}
+
+/// A chapter from a configuration, behind which others come, mostly one with an end that isn't its first point.
+fn earlier_chapter(
+    cell: &Cell,
+    shape: &Shape,
+    from: Configuration,
+    random: &mut Random,
+) -> Chapter {
+    let tries = random.choose(&[0, MOST_TRIES, MOST_TRIES, MOST_TRIES]);
+    let mut walk = || walk::chapter_lines(cell, shape, from, Ends::Together, random);
+    let mut chapter = walk();
+    for _ in 0..tries {
+        if chapter.ended.is_some() && chapter.lines[0][1] != END {
+            break;
+        }
+        chapter = walk();
+    }
+    chapter
+}
+
+/// One end, or nothing but ends.
+fn end_lines(only_ends: usize, shape: &Shape) -> Vec<RecipeLine> {
+    match only_ends {
+        0 => vec![END_LINE],
+        _ => (0..shape.points as u8)
+            .map(|point| numbered(END_LINE, point))
+            .collect(),
     }
 }
 
@@ -223,36 +323,43 @@ impl Shape {
     }
 }
 
-/// The pair with up to three lines changed or left out, or limits lowered, or other ends of gates.
-fn damaged_pair(lines: Lines, extras: Extras, random: &mut Random) -> (Cell, Recipe) {
-    let Lines {
-        mut cell,
-        mut limits,
-        mut recipe,
-    } = lines;
-    for _ in 0..1 + random.below(3) {
-        let cell_line = random.below(cell.len());
-        let recipe_line = random.below(recipe.len());
-        if extras.gates && random.once_in(3) {
-            turn_gate(&mut cell, random);
-            continue;
+impl Lines {
+    /// The same with up to three lines changed or left out, or limits lowered, or other ends of gates.
+    fn damaged(mut self, extras: Extras, random: &mut Random) -> Lines {
+        let Lines {
+            cell,
+            limits,
+            chapters,
+        } = &mut self;
+        for _ in 0..1 + random.below(3) {
+            let chapter = match chapters.len() {
+                1 => 0,
+                count => random.below(count),
+            };
+            let recipe = &mut chapters[chapter];
+            let cell_line = random.below(cell.len());
+            let recipe_line = random.below(recipe.len());
+            if extras.gates && random.once_in(3) {
+                turn_gate(cell, random);
+                continue;
+            }
+            if extras.limits && random.once_in(2) {
+                let most = &mut limits[usize::from(cell[cell_line][0])];
+                *most = 1 + random.below(usize::from(*most).min(4)) as u8;
+                continue;
+            }
+            let field = random.below(7);
+            match field {
+                0 if cell.len() > 1 => _ = cell.remove(cell_line),
+                0 | 1 => cell[cell_line][1] = random.below(4) as u8,
+                2 => recipe[recipe_line][field] = random.below(4) as u8,
+                3 if random.once_in(2) => cell[cell_line][field] = random.below(4) as u8,
+                3 | 4 => recipe[recipe_line][field] ^= 1 << random.below(3),
+                _ => recipe[recipe_line][field] = random.below(recipe.len()) as u8,
+            }
         }
-        if extras.limits && random.once_in(2) {
-            let most = &mut limits[usize::from(cell[cell_line][0])];
-            *most = 1 + random.below(usize::from(*most).min(4)) as u8;
-            continue;
-        }
-        let field = random.below(7);
-        match field {
-            0 if cell.len() > 1 => _ = cell.remove(cell_line),
-            0 | 1 => cell[cell_line][1] = random.below(4) as u8,
-            2 => recipe[recipe_line][field] = random.below(4) as u8,
-            3 if random.once_in(2) => cell[cell_line][field] = random.below(4) as u8,
-            3 | 4 => recipe[recipe_line][field] ^= 1 << random.below(3),
-            _ => recipe[recipe_line][field] = random.below(recipe.len()) as u8,
-        }
+        self
     }
-    (limited_cell(&cell, limits), recipe_of_lines(&recipe))
 }
 
 /// Leads some gate, if there is one, to another state.
@@ -310,10 +417,12 @@ fn recipe_of_lines(lines: &[RecipeLine]) -> Recipe {
 mod tests {
     use super::*;
     use crate::entry::{kind_of, makes, TRANSFER};
-    use crate::fixtures::{limited, planned};
+    use crate::fixtures::{limited, planned, planned_chapters};
     use crate::limits::is_overfull;
     use crate::recipe::TEST;
     use crate::run::Run;
+    use crate::single;
+    use crate::sizes::Sizes;
 
     /// How often each feature is met.
     #[derive(Debug, Default)]
@@ -421,7 +530,7 @@ mod tests {
         let mut counts = Counts::default();
         for _ in 0..pairs {
             let (cell, recipe) = likely_pair(most_positions, &mut random);
-            assert_eq!(check(&cell, &recipe), 0);
+            assert_eq!(single::check(&cell, &recipe), 0);
             assert!(Sizes::of(&cell, &recipe).positions <= most_positions);
             counts.add(&cell, &recipe);
         }
@@ -494,7 +603,7 @@ mod tests {
         let pairs = 2000;
         for _ in 0..pairs {
             let (cell, recipe) = limited_pair(400, &mut random);
-            assert_eq!(check(&cell, &recipe), 0);
+            assert_eq!(single::check(&cell, &recipe), 0);
             assert!(Sizes::of(&cell, &recipe).positions <= 400);
             counts.add(&cell, &recipe);
             unreached_points += usize::from(!every_point_is_reached(&recipe));
@@ -569,8 +678,98 @@ mod tests {
         assert_eq!((without.count, without.has_gates()), (6, false));
         assert_eq!(without.line(5), [1, 3, 1, 3, 0]);
         assert_eq!(without.limits, limited.limits);
-        assert_eq!(check(&without, &recipe), 0);
+        assert_eq!(single::check(&without, &recipe), 0);
         assert_eq!(without_gates(&without), without);
+    }
+
+    /// How often each feature of chapters is met, by their number.
+    #[derive(Debug, Default)]
+    struct Chaptered {
+        seen: [usize; 9],
+        realisable: [usize; 9],
+        /// Realisable, and the planned moves come to the last chapter, on some outcomes.
+        passed: [usize; 9],
+        /// The first chapter alone is realisable, but not all of them.
+        together: [usize; 9],
+        /// Some chapter names a part that the first doesn't.
+        new_parts: usize,
+        unreached_points: usize,
+        /// An earlier chapter has several ends, or none.
+        several_ends: usize,
+        endless: usize,
+    }
+
+    impl Chaptered {
+        fn add(&mut self, cell: &Cell, joined: &Joined) {
+            let count = joined.chapters.len();
+            let (refusal, table) = planned_chapters(cell, joined);
+            let realisable = refusal == 0;
+            self.seen[count] += 1;
+            self.realisable[count] += usize::from(realisable);
+            let first = Joined::of(cell, &joined.chapters[..1]);
+            let first_alone = planned_chapters(cell, &first).0 == 0;
+            self.together[count] += usize::from(!realisable && first_alone);
+            let met = joined_from_start(cell, joined, &table);
+            let last = |&p: &u64| usize::from(joined.run_at(p).chapter) + 1 == count;
+            self.passed[count] += usize::from(realisable && met.iter().any(last));
+            self.new_parts += usize::from(first.sizes.parts < joined.sizes.parts);
+            let all_reached = joined.chapters.iter().all(every_point_is_reached);
+            self.unreached_points += usize::from(!all_reached);
+            let ends = |chapter: &Recipe| {
+                let points = 0..chapter.points();
+                points.filter(|&p| chapter.kind_at(p) == END).count()
+            };
+            let earlier = joined.chapters[..count - 1].iter();
+            self.several_ends += usize::from(earlier.clone().any(|chapter| ends(chapter) > 1));
+            self.endless += usize::from(earlier.clone().any(|chapter| ends(chapter) == 0));
+        }
+    }
+
+    /// The positions to which the planned moves from the start lead, whatever the outcomes.
+    fn joined_from_start(cell: &Cell, joined: &Joined, table: &[u32]) -> Vec<u64> {
+        let mut met = vec![0];
+        let mut n = 0;
+        while n < met.len() {
+            let run = joined.run_at(met[n]);
+            let entry = table[met[n] as usize];
+            for outcome in [0, 1] {
+                let made = joined.makes(cell, &run, entry, outcome);
+                let next = made.map(|run| joined.position(&run));
+                met.extend(next.filter(|next| !met.contains(next)));
+            }
+            n += 1;
+        }
+        met
+    }
+
+    #[test]
+    fn many_chapters_are_realisable_and_their_joints_are_passed() {
+        let mut random = Random(36);
+        let mut counts = Chaptered::default();
+        let wanted = 4000;
+        for n in 0..wanted {
+            let chapters = [likely_chapters, limited_chapters][n % 2];
+            let (cell, chapters) = chapters(200, 1 + n / 2 % 8, &mut random);
+            assert_eq!(check(&cell, &chapters), 0);
+            let joined = Joined::of(&cell, &chapters);
+            assert!(joined.greatest_positions() <= 200);
+            counts.add(&cell, &joined);
+        }
+        println!("{counts:?}");
+        for count in 2..=8 {
+            let Chaptered {
+                seen,
+                realisable,
+                passed,
+                together,
+                ..
+            } = &counts;
+            assert!(seen[count] >= 200 && 3 * realisable[count] > seen[count]);
+            assert!(4 * passed[count] > seen[count] && 20 * together[count] > seen[count]);
+        }
+        let often = [counts.new_parts, counts.several_ends, counts.endless];
+        assert!(often.iter().all(|&times| 20 * times > wanted));
+        assert_about_a_tenth(counts.unreached_points, wanted);
     }
 
     #[test]

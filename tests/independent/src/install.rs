@@ -3,12 +3,14 @@
 //! is tried by itself.
 
 use crate::cell::{Cell, OPERATION};
-use crate::plan::{stored_table, try_lent};
+use crate::joined::Joined;
 use crate::recipe::{Recipe, END};
 use crate::simulation::greatest_simulation;
+use crate::single::{stored_table, try_lent};
 use crate::sizes::Sizes;
 use crate::table::MOST_LINES;
 use std::collections::BTreeSet;
+use std::slice;
 
 /// An operation line: resource, from, operation and to.
 pub type Process = [u8; 4];
@@ -66,7 +68,8 @@ pub fn missing_processes(
 
 /// Whether the greatest simulation by joint steps holds the start. This is for small cells.
 pub fn realisable_by_joint_steps(cell: &Cell, recipe: &Recipe) -> bool {
-    greatest_simulation(cell, recipe)[0]
+    let joined = Joined::of(cell, slice::from_ref(recipe));
+    greatest_simulation(cell, &joined)[0]
 }
 
 /// Whether the planner's search finds a way from the start, on which unreached points have no say.
@@ -124,7 +127,7 @@ fn with_process(cell: &Cell, [resource, from, operation, to]: Process) -> Cell {
 mod tests {
     use super::*;
     use crate::fixtures::{
-        bench, bench_with, cell_of, either_pair, limit, limit_with_a_fifth_state, limited,
+        alone, bench, bench_with, cell_of, either_pair, limit, limit_with_a_fifth_state, limited,
         recipe_of, BENCH_CELL, BENCH_RECIPE, FORK, PASTED_END, PASTED_LOOP,
     };
     use crate::random::Random;
@@ -350,7 +353,7 @@ mod tests {
                 let tries = candidates(&cell, recipe).len() as u64 + 1;
                 let room = usize::from(cell.count) < MOST_LINES;
                 let may_be_listed = room && every_point_is_reached(recipe);
-                if may_be_listed && joint_choices(&cell, recipe) * tries < 20_000 {
+                if may_be_listed && joint_choices(&cell, &alone(&cell, recipe)) * tries < 20_000 {
                     let listed = listed(&cell, recipe);
                     let lacks = !realisable_by_joint_steps(&cell, recipe);
                     compared += 1;

@@ -66,10 +66,10 @@ pub fn is_overfull(cell: &Cell, configuration: &Configuration) -> bool {
 mod tests {
     use super::*;
     use crate::entry::is_open;
-    use crate::fixtures::{cell_of, limited, next_positions, planned, recipe_of};
+    use crate::fixtures::{alone, cell_of, limited, next_positions, planned, recipe_of};
     use crate::recipe::Recipe;
-    use crate::run::Run;
     use crate::simulation::greatest_simulation;
+    use crate::single::Run;
     use crate::sizes::Sizes;
     use crate::table::tests::file_of;
 
@@ -239,10 +239,11 @@ mod tests {
         assert!(is_overfull(&cell, &configuration));
         assert!(is_open(&cell, &recipe, point, &configuration, mends));
         assert_eq!(answers(&cell, &recipe, 58, mends), (0, mends, 0));
-        for next in next_positions(&cell, &recipe, 58, mends) {
+        let joined = alone(&cell, &recipe);
+        for next in next_positions(&cell, &joined, 58, mends) {
             assert_ne!(table[next], 0);
         }
-        let greatest = greatest_simulation(&cell, &recipe);
+        let greatest = greatest_simulation(&cell, &joined);
         assert!(greatest[0] && !greatest[58]);
     }
 
@@ -258,7 +259,8 @@ mod tests {
         for (most, refusal) in [(1, 15), (2, 0), (8, 0)] {
             let cell = limited(cell_of(&lines), &[8, most]);
             assert_eq!(planned(&cell, &recipe).0, refusal);
-            assert_eq!(greatest_simulation(&cell, &recipe)[0], refusal == 0);
+            let greatest = greatest_simulation(&cell, &alone(&cell, &recipe));
+            assert_eq!(greatest[0], refusal == 0);
         }
     }
 }

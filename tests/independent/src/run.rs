@@ -1,23 +1,24 @@
 //! The run over a stored table: fresh, next-move, report and place, each of which checks anew what
 //! it is handed.
 
-use crate::cell::{check_cell, Cell};
-use crate::entry::{is_open, makes};
-use crate::recipe::{check_recipe, Recipe, END};
-use crate::sizes::{Configuration, Sizes, MOST_POSITIONS};
-use crate::table::Refusal;
+use crate::cell::Cell;
+use crate::chapters::try_to_run;
+use crate::joined::Joined;
+use crate::recipe::Recipe;
+use crate::sizes::Configuration;
 
 /// The length of a run in bytes.
-pub const RUN_BYTES: usize = 15;
+pub const RUN_BYTES: usize = 16;
 
 /// The place that a refused place call gives, and any for a part that isn't there.
-const NO_PLACE: u8 = 255;
+pub(crate) const NO_PLACE: u8 = 255;
 
-/// A point and a configuration.
+/// A point and a configuration, and the chapter that the point is one of.
 #[derive(Clone, Copy, Debug, PartialEq, Eq)]
 pub struct Run {
     pub point: u8,
     pub configuration: Configuration,
+    pub chapter: u8,
 }
 
 /// The answer of a next-move call: a refusal with entry 0, or refusal 0 with the entry.
@@ -41,54 +42,21 @@ pub struct Place {
     pub place: u8,
 }
 
-/// The first of the rules 3 to 13 that a cell and a recipe break, the cell first; 0 if they break
-/// none.
-pub fn check(cell: &Cell, recipe: &Recipe) -> u8 {
-    try_records(cell, recipe).err().unwrap_or(0)
-}
-
-/// The sizes of a cell and a recipe that break none of the rules 3 to 13, or the first that they do.
-fn try_records(cell: &Cell, recipe: &Recipe) -> Result<Sizes, u8> {
-    try_each_record(cell, recipe)?;
-    try_positions(cell, recipe)
-}
-
-/// The rules 3 to 12, which are about one record: all of the cell's before the recipe's.
-pub(crate) fn try_each_record(cell: &Cell, recipe: &Recipe) -> Result<(), u8> {
-    try_rules(check_cell(cell))?;
-    try_rules(check_recipe(recipe))
-}
-
-/// Rule 13, for records that pass the rules 3 to 12.
-pub(crate) fn try_positions(cell: &Cell, recipe: &Recipe) -> Result<Sizes, u8> {
-    let sizes = Sizes::of(cell, recipe);
-    if sizes.positions > MOST_POSITIONS {
-        return Err(13);
-    }
-    Ok(sizes)
-}
-
-/// A call on a run names no line, so that of a refused record only the rule is left.
-fn try_rules(refusal: Refusal) -> Result<(), u8> {
-    match refusal.number {
-        0 => Ok(()),
-        number => Err(number),
-    }
-}
-
 impl Run {
-    /// The run at point 0 in the starting configuration.
+    /// The run at point 0 of chapter 0 in the starting configuration.
     pub fn fresh() -> Run {
         Run {
             point: 0,
             configuration: Configuration::START,
+            chapter: 0,
         }
     }
 
     /// Gives the entry at the run's position.
-    pub fn next_move(&self, cell: &Cell, recipe: &Recipe, table: &[u32]) -> NextMove {
-        let entry = self.try_entry(cell, recipe, table).and_then(|entry| {
-            let open = is_open(cell, recipe, self.point, &self.configuration, entry);
+    pub fn next_move(&self, cell: &Cell, chapters: &[Recipe], table: &[u32]) -> NextMove {
+        let found = self.try_entry(cell, chapters, table);
+        let entry = found.and_then(|(joined, entry)| {
+            let open = joined.is_open(cell, self, entry);
             open.then_some(entry).ok_or(18)
         });
         match entry {
@@ -97,39 +65,38 @@ impl Run {
         }
     }
 
-    /// Makes the move at the run's position and gives the next run.
-    pub fn report(self, cell: &Cell, recipe: &Recipe, table: &[u32], outcome: u8) -> Report {
-        match self.next(cell, recipe, table, outcome) {
+    /// Makes the move at the run's position and gives the next run. A carry that leads to an end of an
+    /// earlier chapter leaves the run at point 0 of the next.
+    pub fn report(self, cell: &Cell, chapters: &[Recipe], table: &[u32], outcome: u8) -> Report {
+        match self.next(cell, chapters, table, outcome) {
             Ok(run) => Report { refusal: 0, run },
             Err(refusal) => Report { refusal, run: self },
         }
     }
 
-    fn next(&self, cell: &Cell, recipe: &Recipe, table: &[u32], outcome: u8) -> Result<Run, u8> {
-        let entry = self.try_entry(cell, recipe, table)?;
+    fn next(
+        &self,
+        cell: &Cell,
+        chapters: &[Recipe],
+        table: &[u32],
+        outcome: u8,
+    ) -> Result<Run, u8> {
+        let (joined, entry) = self.try_entry(cell, chapters, table)?;
         if outcome > 1 {
             return Err(17);
         }
-        let Run {
-            point,
-            configuration,
-        } = self;
-        let made = makes(cell, recipe, *point, configuration, entry, outcome);
-        let (next, configuration) = made.ok_or(18)?;
-        if recipe.kind_at(*point) == END {
+        let next = joined.makes(cell, self, entry, outcome).ok_or(18)?;
+        if joined.is_end(self.chapter, self.point) {
             return Err(19);
         }
-        Ok(Run {
-            point: next,
-            configuration,
-        })
+        Ok(next)
     }
 
     /// Gives a part's place.
-    pub fn place(&self, cell: &Cell, recipe: &Recipe, part: u8) -> Place {
-        let sizes = try_records(cell, recipe).and_then(|sizes| self.try_run(sizes));
-        match sizes {
-            Ok(sizes) if usize::from(part) < sizes.parts => Place {
+    pub fn place(&self, cell: &Cell, chapters: &[Recipe], part: u8) -> Place {
+        let joined = try_to_run(cell, chapters).and_then(|joined| self.try_run(joined));
+        match joined {
+            Ok(joined) if usize::from(part) < joined.sizes.parts => Place {
                 refusal: 0,
                 place: self.configuration.places[usize::from(part)],
             },
@@ -140,33 +107,38 @@ impl Run {
         }
     }
 
-    /// The entry at the run's position, unless one of the rules up to 16 is broken.
-    fn try_entry(&self, cell: &Cell, recipe: &Recipe, table: &[u32]) -> Result<u32, u8> {
-        let sizes = try_records(cell, recipe)?;
-        if (table.len() as u64) < sizes.positions {
+    /// The joined recipe and the entry at the run's position, unless one of the rules up to 16 is broken.
+    fn try_entry(
+        &self,
+        cell: &Cell,
+        chapters: &[Recipe],
+        table: &[u32],
+    ) -> Result<(Joined, u32), u8> {
+        let joined = try_to_run(cell, chapters)?;
+        if (table.len() as u64) < joined.sizes.positions {
             return Err(14);
         }
-        let sizes = self.try_run(sizes)?;
-        let position = sizes.position(self.point, &self.configuration);
-        Ok(table[position as usize])
+        let joined = self.try_run(joined)?;
+        let entry = table[joined.position(self) as usize];
+        Ok((joined, entry))
     }
 
     /// Rule 16.
-    fn try_run(&self, sizes: Sizes) -> Result<Sizes, u8> {
-        if sizes.holds(self.point, &self.configuration) {
-            Ok(sizes)
+    fn try_run(&self, joined: Joined) -> Result<Joined, u8> {
+        if joined.holds(self) {
+            Ok(joined)
         } else {
             Err(16)
         }
     }
 }
 
-/// The run as bytes: the point, six states, eight places.
+/// The run as bytes: the point, six states, eight places, the chapter.
 pub fn run_bytes(run: &Run) -> [u8; RUN_BYTES] {
-    let mut bytes = [0; RUN_BYTES];
+    let mut bytes = [run.chapter; RUN_BYTES];
     bytes[0] = run.point;
     bytes[1..7].copy_from_slice(&run.configuration.states);
-    bytes[7..].copy_from_slice(&run.configuration.places);
+    bytes[7..15].copy_from_slice(&run.configuration.places);
     bytes
 }
 
@@ -178,7 +150,8 @@ pub fn run_of_bytes(bytes: &[u8]) -> Run {
         Some(bytes) => {
             run.point = bytes[0];
             run.configuration.states.copy_from_slice(&bytes[1..7]);
-            run.configuration.places.copy_from_slice(&bytes[7..]);
+            run.configuration.places.copy_from_slice(&bytes[7..15]);
+            run.chapter = bytes[15];
         }
         None => run.point = u8::MAX,
     }
@@ -188,246 +161,207 @@ pub fn run_of_bytes(bytes: &[u8]) -> Run {
 #[cfg(test)]
 mod tests {
     use super::*;
+    use crate::chapters::check;
     use crate::fixtures::{
-        bench, bench_table, bench_with, cell_of, gate, limit, limit_with_a_fifth_state, planned,
-        recipe_of, BENCH_CELL, PASTED_END, PASTED_LOOP,
+        alone, bench_chapters, bench_table, cell_of, either_pair, planned, planned_chapters,
+        recipe_of, BENCH_CELL, BENCH_RECIPE, GIVING, TESTING, WHOLE,
     };
+    use crate::random::Random;
+    use crate::single;
+    use crate::sizes::MOST_PARTS;
+    use std::slice;
 
-    /// The run at a position of the bench example.
-    fn run_at(position: u64) -> Run {
-        let (cell, recipe) = bench();
-        let (point, configuration) = Sizes::of(&cell, &recipe).at(position);
-        Run {
-            point,
-            configuration,
-        }
-    }
-
-    /// What a next-move call and a report with each outcome say at a position of the bench example.
-    fn refusals(table: &[u32], run: Run) -> [u8; 4] {
-        let (cell, recipe) = bench();
-        let next_move = run.next_move(&cell, &recipe, table);
+    /// What a next-move call and a report with each outcome say of a run, which must stay if it is refused.
+    fn refusals(cell: &Cell, chapters: &[Recipe], table: &[u32], run: Run) -> [u8; 4] {
+        let next_move = run.next_move(cell, chapters, table);
         assert!(next_move.refusal == 0 || next_move.entry == 0);
         let reports = [0, 1, 2].map(|outcome| {
-            let report = run.report(&cell, &recipe, table, outcome);
+            let report = run.report(cell, chapters, table, outcome);
             assert!(report.refusal == 0 || report.run == run);
             report.refusal
         });
         [next_move.refusal, reports[0], reports[1], reports[2]]
     }
 
-    #[test]
-    fn the_four_moves_of_the_bench_example() {
-        let (cell, recipe) = bench();
-        let sizes = Sizes::of(&cell, &recipe);
-        let table = bench_table();
+    /// The entries that are issued by these outcomes from the start.
+    fn entries(cell: &Cell, chapters: &[Recipe], table: &[u32], outcomes: &[u8]) -> Vec<u32> {
         let mut run = Run::fresh();
-        let moves = [
-            (0, 50_331_648, 0, 22),
-            (22, 33_554_561, 0, 26),
-            (26, 50_331_843, 1, 50),
-            (50, 50_331_652, 0, 72),
-        ];
-        for (position, entry, outcome, next) in moves {
-            assert_eq!(sizes.position(run.point, &run.configuration), position);
-            let answer = run.next_move(&cell, &recipe, &table);
-            assert_eq!(answer, NextMove { refusal: 0, entry });
-            let report = run.report(&cell, &recipe, &table, outcome);
+        let issue = |&outcome: &u8| {
+            let entry = run.next_move(cell, chapters, table).entry;
+            let report = run.report(cell, chapters, table, outcome);
             assert_eq!(report.refusal, 0);
             run = report.run;
-            assert_eq!(sizes.position(run.point, &run.configuration), next);
-        }
-        let end = run.next_move(&cell, &recipe, &table);
-        assert_eq!((end.refusal, end.entry), (0, 67_108_864));
-        assert_eq!(refusals(&table, run), [0, 19, 19, 17]);
+            entry
+        };
+        outcomes.iter().map(issue).collect()
     }
 
     #[test]
-    fn a_recipe_with_an_unreached_point_is_run_with_a_stored_table() {
-        for pasted in [&PASTED_END[..], &PASTED_LOOP] {
-            let (cell, recipe) = bench_with(pasted);
-            assert_eq!(check(&cell, &recipe), 0);
-            let mut table = bench_table();
-            table.resize(Sizes::of(&cell, &recipe).positions as usize, 67_108_864);
-            let mut run = Run::fresh();
-            for (outcome, next) in [(0, 22), (0, 26), (1, 50), (0, 72)] {
-                assert_eq!(run.next_move(&cell, &recipe, &table).refusal, 0);
-                assert_eq!(run.place(&cell, &recipe, 0).refusal, 0);
-                let report = run.report(&cell, &recipe, &table, outcome);
-                assert_eq!((report.refusal, report.run), (0, run_at(next)));
-                run = report.run;
-            }
-            assert_eq!(run.report(&cell, &recipe, &table, 1).refusal, 19);
-            // A run at the forgotten point is one as any other.
-            run.point = 5;
-            let at_end = pasted.len() == 1;
-            let next_move = run.next_move(&cell, &recipe, &table);
-            assert_eq!(next_move.refusal, if at_end { 0 } else { 18 });
-        }
-    }
-
-    #[test]
-    fn a_failed_test_leads_to_68_and_that_to_the_start() {
-        let (cell, recipe) = bench();
-        let table = bench_table();
-        let failed = run_at(26).report(&cell, &recipe, &table, 0);
-        assert_eq!((failed.refusal, failed.run), (0, run_at(68)));
+    fn a_cut_recipe_is_followed_as_the_whole() {
+        let (cell, joined) = bench_chapters(&[&GIVING, &TESTING]);
+        let whole = [recipe_of(&WHOLE)];
+        let (refusal, table) = planned_chapters(&cell, &joined);
+        let (_, whole_table) = planned(&cell, &whole[0]);
+        assert_eq!(refusal, 0);
         for outcome in [0, 1] {
-            let again = failed.run.report(&cell, &recipe, &table, outcome);
-            assert_eq!((again.refusal, again.run), (0, Run::fresh()));
+            let outcomes = [0, 0, outcome, 0];
+            let issued = entries(&cell, &joined.chapters, &table, &outcomes);
+            assert_eq!(issued, [50_331_648, 33_554_561, 50_331_843, 50_331_652]);
+            let of_whole = entries(&cell, &whole, &whole_table, &outcomes);
+            assert_eq!(issued, of_whole);
         }
     }
 
     #[test]
-    fn a_test_with_a_gate_leaves_its_station_elsewhere_on_outcome_0() {
-        let (cell, recipe) = gate();
-        let (_, table) = planned(&cell, &recipe);
-        let to_the_test = [0, 0].iter().fold(Run::fresh(), |run, &outcome| {
-            let report = run.report(&cell, &recipe, &table, outcome);
-            assert_eq!(report.refusal, 0);
-            report.run
-        });
-        let next_move = |run: Run| run.next_move(&cell, &recipe, &table).entry;
-        assert_eq!(next_move(to_the_test), 50_331_971);
-        for (outcome, point, state, entry) in [(1, 2, 2, 50_331_652), (0, 3, 3, 50_331_654)] {
-            let Report { refusal, run } = to_the_test.report(&cell, &recipe, &table, outcome);
-            assert_eq!(
-                (refusal, run.point, run.configuration.states[1]),
-                (0, point, state)
-            );
-            assert_eq!(run.configuration.places, to_the_test.configuration.places);
-            assert_eq!(next_move(run), entry);
-            let next = run.report(&cell, &recipe, &table, 1 - outcome);
-            assert_eq!(
-                (next.refusal, next.run.configuration),
-                (0, Configuration::START)
-            );
-        }
-    }
-
-    #[test]
-    fn an_entry_of_a_test_from_before_gates_is_open_for_line_0_alone() {
-        // The letter b was unused, and so it was 0.
-        for (cell, entry) in [
-            (["0,0,1,2,0", "0,0,1,1,0"], 50_331_648),
-            (["0,0,1,1,0", "0,0,1,2,0"], 50_331_649),
-        ] {
-            let recipe = recipe_of(&["0,1,1,0,1,1,0", "1,2,2,1,0,2,2", "2,0,0,0,0,0,0"]);
-            let at_line_0 = entry == 50_331_648;
-            for gate in [false, true] {
-                let lines = [&cell[..], &["0,0,4,2,0"]].concat();
-                let cell = cell_of(&lines[..2 + usize::from(gate)]);
-                let (_, mut table) = planned(&cell, &recipe);
-                let mut run = Run::fresh();
-                (run.point, run.configuration.places[0]) = (1, 1);
-                assert_eq!(run.report(&cell, &recipe, &table, 0).refusal, 0);
-                table[3] = entry;
-                let refusal = if at_line_0 && !gate { 0 } else { 18 };
-                assert_eq!(run.next_move(&cell, &recipe, &table).refusal, refusal);
-                assert_eq!(run.report(&cell, &recipe, &table, 0).refusal, refusal);
-            }
-        }
-    }
-
-    #[test]
-    fn rule_13_at_the_limit() {
-        let (cell, recipe) = limit();
-        assert_eq!(check(&cell, &recipe), 0);
-        assert_eq!(Run::fresh().place(&cell, &recipe, 4).refusal, 0);
-        let (cell, recipe) = limit_with_a_fifth_state();
-        assert_eq!(check(&cell, &recipe), 13);
-        assert_eq!(Run::fresh().next_move(&cell, &recipe, &[]).refusal, 13);
-        assert_eq!(Run::fresh().report(&cell, &recipe, &[], 9).refusal, 13);
-        let place = Run::fresh().place(&cell, &recipe, 4);
-        assert_eq!((place.refusal, place.place), (13, 255));
-    }
-
-    #[test]
-    fn the_cell_is_judged_before_the_recipe_and_both_before_the_rest() {
-        let (mut cell, mut recipe) = bench();
-        cell.arg[2] = 6;
-        recipe.count = 0;
-        let answers = |cell: &Cell, recipe: &Recipe| {
-            let mut run = Run::fresh();
-            run.point = 99;
-            [
-                check(cell, recipe),
-                run.next_move(cell, recipe, &[]).refusal,
-                run.report(cell, recipe, &[], 9).refusal,
-                run.place(cell, recipe, 0).refusal,
-            ]
+    fn a_run_at_an_earlier_end_goes_nowhere() {
+        let (cell, joined) = bench_chapters(&[&GIVING, &TESTING]);
+        let chapters = &joined.chapters[..];
+        let (_, mut table) = planned_chapters(&cell, &joined);
+        let landed = Run::fresh().report(&cell, chapters, &table, 1).run;
+        assert_eq!((landed.chapter, landed.point), (1, 0));
+        let at_end = Run {
+            chapter: 0,
+            point: 1,
+            ..landed
         };
-        assert_eq!(answers(&cell, &recipe), [6; 4]);
-        cell.arg[2] = 5;
-        assert_eq!(answers(&cell, &recipe), [3; 4]);
-        recipe.count = 5;
-        assert_eq!(answers(&cell, &recipe), [0, 14, 14, 16]);
-    }
-
-    #[test]
-    fn rules_14_to_19_are_tried_in_order() {
-        let table = bench_table();
-        let mut gone = run_at(0);
-        gone.point = 5;
-        assert_eq!(refusals(&table[..89], gone), [14; 4]);
-        assert_eq!(refusals(&table, gone), [16; 4]);
-        // Position 1 has entry 0, and at an end an entry that isn't open is refused as such.
-        assert_eq!(refusals(&table, run_at(1)), [18, 18, 18, 17]);
-        let blank = [0; 90];
-        assert_eq!(refusals(&blank, run_at(72)), [18, 18, 18, 17]);
-        assert_eq!(refusals(&table, run_at(72)), [0, 19, 19, 17]);
-        assert_eq!(refusals(&table, run_at(26)), [0, 0, 0, 17]);
-    }
-
-    #[test]
-    fn a_longer_table_is_read_at_the_same_positions() {
-        let (cell, recipe) = bench();
-        let mut table = bench_table();
-        table.push(7);
-        let answer = run_at(22).next_move(&cell, &recipe, &table);
-        assert_eq!((answer.refusal, answer.entry), (0, 33_554_561));
-    }
-
-    #[test]
-    fn places_of_parts_there_and_not_there() {
-        let (cell, recipe) = bench();
-        let places = |part| {
-            let place = run_at(26).place(&cell, &recipe, part);
-            (place.refusal, place.place)
-        };
-        assert_eq!(places(0), (0, 2));
-        assert_eq!(places(1), (0, 255));
-        assert_eq!(places(255), (0, 255));
-        let mut run = run_at(26);
-        run.configuration.places[1] = 1;
-        assert_eq!(run.place(&cell, &recipe, 0).refusal, 16);
-        assert_eq!(run.place(&cell, &recipe, 9).place, 255);
-    }
-
-    #[test]
-    fn a_recipe_of_one_end() {
-        let cell = cell_of(&BENCH_CELL);
-        let recipe = recipe_of(&["0,0,0,0,0,0,0"]);
-        let table = [67_108_864; 6];
-        assert_eq!(check(&cell, &recipe), 0);
-        let answer = Run::fresh().next_move(&cell, &recipe, &table);
+        let position = joined.position(&at_end) as usize;
+        assert_eq!(table[position], 67_108_864);
+        let answer = at_end.next_move(&cell, chapters, &table);
         assert_eq!((answer.refusal, answer.entry), (0, 67_108_864));
-        assert_eq!(Run::fresh().report(&cell, &recipe, &table, 1).refusal, 19);
-        assert_eq!(
-            Run::fresh().next_move(&cell, &recipe, &table[..5]).refusal,
-            14
-        );
+        assert_eq!(refusals(&cell, chapters, &table, at_end), [0, 19, 19, 17]);
+        for entry in [0, 1, 33_554_561, 50_331_648, 67_108_865] {
+            table[position] = entry;
+            assert_eq!(refusals(&cell, chapters, &table, at_end), [18, 18, 18, 17]);
+        }
+        // The end of the last chapter is the end.
+        let end = Run {
+            chapter: 1,
+            point: 3,
+            ..landed
+        };
+        assert_eq!(refusals(&cell, chapters, &table, end), [0, 19, 19, 17]);
+    }
+
+    #[test]
+    fn the_rules_are_tried_in_order() {
+        let (cell, joined) = bench_chapters(&[&GIVING, &TESTING]);
+        let chapters = &joined.chapters[..];
+        let (_, table) = planned_chapters(&cell, &joined);
+        let mut gone = Run::fresh();
+        gone.chapter = 2;
+        assert_eq!(refusals(&cell, chapters, &table, gone), [16; 4]);
+        assert_eq!(gone.place(&cell, chapters, 0).refusal, 16);
+        let positions = table.len();
+        let short = &table[..positions - 1];
+        assert_eq!(refusals(&cell, chapters, short, gone), [14; 4]);
+        assert_eq!(gone.place(&cell, chapters, 0).place, 255);
+        for (chapters, owed) in [
+            (vec![], 24),
+            (vec![chapters[0].clone(); 9], 24),
+            (vec![recipe_of(&["0,0,0,0,0,0,0"]), chapters[1].clone()], 24),
+        ] {
+            assert_eq!(refusals(&cell, &chapters, &[], gone), [owed; 4]);
+            let place = gone.place(&cell, &chapters, 0);
+            assert_eq!((place.refusal, place.place), (owed, 255));
+        }
+    }
+
+    #[test]
+    fn parts_are_those_of_all_chapters() {
+        let cell = cell_of(&BENCH_CELL);
+        let chapters = [&GIVING[..], &["0,1,1,0,8,1,0", "1,0,0,0,0,0,0"]].map(recipe_of);
+        let mut run = Run::fresh();
+        run.configuration.places[3] = 2;
+        let places = [0, 3, 4].map(|part| run.place(&cell, &chapters, part));
+        let owed = [0, 2, 255].map(|place| Place { refusal: 0, place });
+        assert_eq!(places, owed);
     }
 
     #[test]
     fn bytes_are_read_back_unless_they_are_too_few() {
-        let run = run_at(26);
+        let (cell, joined) = bench_chapters(&[&GIVING, &TESTING]);
+        let (_, table) = planned_chapters(&cell, &joined);
+        let run = Run::fresh().report(&cell, &joined.chapters, &table, 0).run;
         let mut bytes = run_bytes(&run).to_vec();
-        assert_eq!(bytes, [1, 0, 1, 0, 0, 0, 0, 2, 0, 0, 0, 0, 0, 0, 0]);
+        assert_eq!(bytes, [0, 1, 0, 0, 0, 0, 0, 1, 0, 0, 0, 0, 0, 0, 0, 1]);
         bytes.push(9);
         assert_eq!(run_of_bytes(&bytes), run);
-        let (cell, recipe) = bench();
-        let short = run_of_bytes(&bytes[..14]);
-        assert_eq!(short.place(&cell, &recipe, 0).refusal, 16);
+        for length in 0..RUN_BYTES {
+            let short = run_of_bytes(&bytes[..length]);
+            assert_eq!(short.place(&cell, &joined.chapters, 0).refusal, 16);
+        }
+        assert_eq!(run_bytes(&Run::fresh()), [0; RUN_BYTES]);
+    }
+
+    #[test]
+    fn the_bench_example_is_one_chapter() {
+        let (cell, joined) = bench_chapters(&[&BENCH_RECIPE]);
+        let issued = entries(&cell, &joined.chapters, &bench_table(), &[0, 0, 1, 0]);
+        assert_eq!(issued, [50_331_648, 33_554_561, 50_331_843, 50_331_652]);
+    }
+
+    /// What the calls on a run say over a single recipe, and over it as the only chapter: the refusals, the
+    /// entry, the next run and a part's place.
+    fn compare_answers(cell: &Cell, recipe: &Recipe, table: &[u32], run: Run, outcome: u8) {
+        let chapters = slice::from_ref(recipe);
+        let alone = single::Run {
+            point: run.point,
+            configuration: run.configuration,
+        };
+        let next_move = alone.next_move(cell, recipe, table);
+        assert_eq!(run.next_move(cell, chapters, table), next_move);
+        let report = alone.report(cell, recipe, table, outcome);
+        let next = Report {
+            refusal: report.refusal,
+            run: Run {
+                point: report.run.point,
+                configuration: report.run.configuration,
+                chapter: 0,
+            },
+        };
+        assert_eq!(run.report(cell, chapters, table, outcome), next);
+        for part in 0..=MOST_PARTS as u8 {
+            let place = alone.place(cell, recipe, part);
+            assert_eq!(run.place(cell, chapters, part), place);
+        }
+    }
+
+    #[test]
+    fn one_chapter_answers_as_the_single_recipe() {
+        let mut random = Random(23);
+        let mut refused = 0;
+        for n in 0..1500 {
+            let (mut cell, mut recipe) = either_pair(n, 120, &mut random);
+            let joined = alone(&cell, &recipe);
+            let mut table = planned(&cell, &recipe).1;
+            for _ in 0..table.len() / 8 {
+                let (one, other) = (random.below(table.len()), random.below(table.len()));
+                let any = random.bits() as u32;
+                table[one] = random.choose(&[0, table[other], any]);
+            }
+            // Some records are damaged after that, and some tables too short.
+            match random.below(8) {
+                0 => cell.to[0] = random.below(12) as u8,
+                1 => recipe.takes[0] = random.bits() as u8,
+                2 => recipe.count = random.below(4) as u8,
+                _ => {}
+            }
+            let checked = single::check(&cell, &recipe);
+            assert_eq!(check(&cell, slice::from_ref(&recipe)), checked);
+            refused += usize::from(checked != 0);
+            for _ in 0..20 {
+                let mut run = joined.run_at(random.below(table.len()) as u64);
+                if random.once_in(8) {
+                    run.point = random.below(20) as u8;
+                }
+                let outcome = random.choose(&[0, 1, 1, 2]);
+                let table = match random.once_in(8) {
+                    true => &table[1..],
+                    false => &table,
+                };
+                compare_answers(&cell, &recipe, table, run, outcome);
+            }
+        }
+        assert!(refused > 100, "{refused}");
     }
 }

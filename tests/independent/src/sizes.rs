@@ -3,6 +3,7 @@
 
 use crate::cell::Cell;
 use crate::recipe::Recipe;
+use std::slice;
 
 /// The most resources that a cell may have.
 pub const MOST_RESOURCES: usize = 6;
@@ -33,7 +34,8 @@ impl Configuration {
     };
 }
 
-/// The numbers of a cell and a recipe that pass the rules 3 to 12.
+/// The numbers of a cell and a recipe that pass the rules 3 to 12; of chapters over one cell too, in which P
+/// and W count over all of them, and so do N and M in the joined recipe.
 #[derive(Clone, Debug, PartialEq, Eq)]
 pub struct Sizes {
     /// R, the number of resources.
@@ -54,6 +56,15 @@ pub struct Sizes {
 
 impl Sizes {
     pub fn of(cell: &Cell, recipe: &Recipe) -> Sizes {
+        Sizes::with(
+            cell,
+            recipe.points().into(),
+            parts_of(slice::from_ref(recipe)),
+        )
+    }
+
+    /// The numbers of a cell with so many points and parts.
+    pub(crate) fn with(cell: &Cell, points: u64, parts: usize) -> Sizes {
         let mut states = [0; MOST_RESOURCES];
         for n in 0..usize::from(cell.count) {
             let greatest = cell.from[n].max(cell.to[n]);
@@ -63,13 +74,6 @@ impl Sizes {
         // Rule 5 has left no gap between the resources.
         let resources = cell.resources();
         let joint_states = states[..resources].iter().product();
-
-        let lines = 0..usize::from(recipe.count);
-        let named = lines
-            .clone()
-            .fold(0, |named, n| named | recipe.takes[n] | recipe.gives[n]);
-        let parts = (u8::BITS - named.leading_zeros()) as usize;
-        let points = u64::from(recipe.point[lines.end - 1]) + 1;
         let placings = (resources as u64 + 1).pow(parts as u32);
         Sizes {
             resources,
@@ -80,6 +84,11 @@ impl Sizes {
             placings,
             positions: points * joint_states * placings,
         }
+    }
+
+    /// J × W, the number of configurations.
+    pub fn configurations(&self) -> u64 {
+        self.joint_states * self.placings
     }
 
     /// The number of a point with a configuration, both of which are there.
@@ -141,6 +150,16 @@ impl Sizes {
             && (0..MOST_RESOURCES).all(state_held)
             && (0..MOST_PARTS).all(place_held)
     }
+}
+
+/// P: the greatest part number in any takes or gives of some recipes, plus 1, or 0 without parts.
+pub(crate) fn parts_of(recipes: &[Recipe]) -> usize {
+    let sums = recipes.iter().flat_map(|recipe| {
+        let lines = 0..usize::from(recipe.count);
+        lines.map(|n| recipe.takes[n] | recipe.gives[n])
+    });
+    let named = sums.fold(0, |named, sum| named | sum);
+    (u8::BITS - named.leading_zeros()) as usize
 }
 
 #[cfg(test)]

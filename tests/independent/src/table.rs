@@ -39,6 +39,14 @@ impl Refusal {
     pub(crate) fn of_whole(number: u8) -> Refusal {
         Refusal { number, line: 0 }
     }
+
+    /// The rule alone, if one is broken. A call on records names no line.
+    pub(crate) fn try_rule(self) -> Result<(), u8> {
+        match self.number {
+            0 => Ok(()),
+            number => Err(number),
+        }
+    }
 }
 
 /// A reader's answer. With a refusal comes a record of no lines; from the reader of limits comes the

@@ -1,9 +1,8 @@
 //! The program `walk`: the two files and standard input as bytes, and what is printed for them.
 
 use crate::cell::read_cell;
-use crate::plan::plan;
 use crate::recipe::read_recipe;
-use crate::run::Run;
+use crate::single::{plan, Run};
 use crate::sizes::{scratch_bytes, Sizes};
 use crate::table::Reading;
 

@@ -65,7 +65,7 @@ pub const GROUPS: &[Group] = &[
                 "crates/tables/src/lines.rt",
                 Calls::Named(&["find_line", "show_line"]),
             ),
-            Root::Contracts("crates/positions/src/lib.rt", Calls::Named(&["check"])),
+            Root::Contracts("crates/chapters/src/lib.rt", Calls::Named(&["check"])),
         ],
     },
     Group {

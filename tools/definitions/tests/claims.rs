@@ -3,7 +3,7 @@
 use std::fs;
 
 use definitions::print;
-use definitions::reading::Reading;
+use definitions::reading::{Entry, Reading};
 use definitions::repository::{root, Repository};
 use definitions::roots::{Calls, Group, Root, GROUPS};
 
@@ -45,11 +45,29 @@ fn reading() -> Reading {
     read(GROUPS)
 }
 
-/// Whether a contract of these calls reaches the definition.
-fn reaches(calls: Group, definition: &str) -> bool {
-    let reading = read(&[calls]);
-    let mut entries = reading.definitions.iter().flat_map(|file| &file.entries);
-    entries.any(|entry| entry.name == definition)
+/// The definitions that a contract of these calls reaches.
+fn reached(calls: Group) -> Vec<Entry> {
+    let files = read(&[calls]).definitions;
+    files.into_iter().flat_map(|file| file.entries).collect()
+}
+
+/// Which of them name a definition, but for that definition itself.
+fn naming<'a>(entries: &'a [Entry], definition: &str) -> Vec<&'a str> {
+    let names = |text: &str| {
+        text.split(|c: char| !c.is_alphanumeric())
+            .any(|word| word == definition)
+    };
+    let others = entries.iter().filter(|entry| entry.name != definition);
+    others
+        .filter(|entry| names(&entry.text))
+        .map(|entry| entry.name.as_str())
+        .collect()
+}
+
+/// Whether one of them has the rules on records of a call that plans, or of another.
+fn tries(entries: &[Entry], plans: bool) -> bool {
+    let rules = format!("recordRules {plans} ");
+    entries.iter().any(|entry| entry.text.contains(&rules))
 }
 
 #[test]
@@ -74,10 +92,16 @@ fn the_claims_say_what_to_read() {
     );
 }
 
+/// Rule 22 stands in the rules on a chapter alone, those in the rules on all of them, those in the rules on
+/// records, and the call says there whether it plans.
 #[test]
 fn only_calls_that_plan_try_rule_22() {
-    assert!(reaches(PLAN, "rule22"));
-    assert!(reaches(INSTALL, "rule22"));
-    assert!(reaches(OTHERS, "rule12"), "they check recipes");
-    assert!(!reaches(OTHERS, "rule22"));
+    let (plan, install, others) = (reached(PLAN), reached(INSTALL), reached(OTHERS));
+    for entries in [&plan, &install, &others] {
+        assert_eq!(naming(entries, "rule22"), ["chapterRules"]);
+        assert_eq!(naming(entries, "chapterRules"), ["chaptersRules"]);
+        assert_eq!(naming(entries, "chaptersRules"), ["recordRules"]);
+    }
+    assert!(tries(&plan, true) && tries(&install, true));
+    assert!(tries(&others, false) && !tries(&others, true));
 }

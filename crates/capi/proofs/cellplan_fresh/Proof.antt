@@ -15,7 +15,7 @@ cast-result : tie.Need-cast-result
 cast-result c = search needs
 
 returns : tie.Need-returns
-returns c = too-short _ _ 15 (c .before .before .before .args .buffer .now) (c .number .result) (c .before .if1 .taken) (c .number .ensures)
+returns c = too-short _ _ 16 (c .before .before .before .args .buffer .now) (c .number .result) (c .before .if1 .taken) (c .number .ensures)
 
 fresh-requires : tie.Need-fresh-requires
 fresh-requires c κs = search needs
@@ -31,9 +31,9 @@ unfolding codeOf
 returns-2 c =
     let at-if1 = c .before .before .before .before .before in
     let start = c .before .before .before .before .before .before .before in
-    answered _ _ 15 (start .args .buffer .now) _ 0 (at-if1 .if1 .left) refl
+    answered _ _ 16 (start .args .buffer .now) _ 0 (at-if1 .if1 .left) refl
     (c .before .before .put-run .ensures
-    ∙ ap (λ (run : Run). runBytes run ++ drop 15 (start .args .buffer .now))
+    ∙ ap (λ (run : Run). runBytes run ++ drop 16 (start .args .buffer .now))
     (c .before .before .before .before .fresh .ensures))
 
 pub cellplan-fresh-spec : {M : Type 1} → statement M

@@ -1,5 +1,6 @@
 use mathlib.Core.Path.{ap, _∙_}
 use Prim.Native.Nat.{ℕ, _+_, _*_}
+use Rattle.chapters.specs.Records.{chaptersFrom}
 use Rattle.run.specs.Calls.{nextMove}
 use Rattle.capi.specs.Answer.{moveCode}
 use borrow.Author.Needs.{needs}
@@ -11,9 +12,6 @@ get-run-requires c κs = search needs
 
 get-cell-requires : tie.Need-get-cell-requires
 get-cell-requires c κs = search needs
-
-get-recipe-requires : tie.Need-get-recipe-requires
-get-recipe-requires c κs = search needs
 
 next-move-requires : tie.Need-next-move-requires
 next-move-requires c κs = search needs
@@ -36,15 +34,15 @@ add-result c = search needs
 returns : tie.Need-returns
 unfolding moveCode
 returns c =
-    let at-get-run = c .before .before .before .before .before in
+    let at-get-run = c .before .before .before .before in
     let start = at-get-run .before .before .before .before .before in
     let move = c .before .before .next-move .result in
     ap (λ (n : ℕ). n * 4294967296 + move .entry) (c .before .refusal-number .ensures)
     ∙ ap moveCode
     (c .before .before .next-move .ensures
     ∙
-    (λ i. nextMove (c .before .before .before .before .get-cell .ensures i)
-    (c .before .before .before .get-recipe .ensures i) (start .args .table .now) (at-get-run .get-run .ensures i)))
+    (λ i. nextMove (c .before .before .before .get-cell .ensures i) (chaptersFrom (start .args .recipes .now)) (start .args .table .now)
+    (at-get-run .get-run .ensures i)))
 
 pub cellplan-next-move-spec : {M : Type 1} → statement M
 cellplan-next-move-spec =
@@ -52,7 +50,6 @@ cellplan-next-move-spec =
     (tie.spec
     get-run-requires
     get-cell-requires
-    get-recipe-requires
     next-move-requires
     refusal-number-requires
     cast-result

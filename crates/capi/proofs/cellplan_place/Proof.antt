@@ -1,5 +1,6 @@
 use mathlib.Core.Path.{ap, _∙_}
 use Prim.Native.Nat.{ℕ, _+_, _*_}
+use Rattle.chapters.specs.Records.{chaptersFrom}
 use Rattle.run.specs.Calls.{partPlace}
 use Rattle.capi.specs.Answer.{placeCode}
 use borrow.Author.Needs.{needs}
@@ -11,9 +12,6 @@ get-run-requires c κs = search needs
 
 get-cell-requires : tie.Need-get-cell-requires
 get-cell-requires c κs = search needs
-
-get-recipe-requires : tie.Need-get-recipe-requires
-get-recipe-requires c κs = search needs
 
 place-requires : tie.Need-place-requires
 place-requires c κs = search needs
@@ -36,15 +34,15 @@ add-result c = search needs
 returns : tie.Need-returns
 unfolding placeCode
 returns c =
-    let at-get-run = c .before .before .before .before .before in
+    let at-get-run = c .before .before .before .before in
     let start = at-get-run .before .before .before .before in
     let answer = c .before .before .place .result in
     ap (λ (n : ℕ). n * 256 + answer .place) (c .before .refusal-number .ensures)
     ∙ ap placeCode
     (c .before .before .place .ensures
     ∙
-    (λ i. partPlace (c .before .before .before .before .get-cell .ensures i)
-    (c .before .before .before .get-recipe .ensures i) (at-get-run .get-run .ensures i) (start .args .part)))
+    (λ i. partPlace (c .before .before .before .get-cell .ensures i) (chaptersFrom (start .args .recipes .now)) (at-get-run .get-run .ensures i)
+    (start .args .part)))
 
 pub cellplan-place-spec : {M : Type 1} → statement M
 cellplan-place-spec =
@@ -52,7 +50,6 @@ cellplan-place-spec =
     (tie.spec
     get-run-requires
     get-cell-requires
-    get-recipe-requires
     place-requires
     refusal-number-requires
     cast-result

@@ -6,9 +6,6 @@ use Rattle.capi.proofs.cellplan_plan.Tie as tie
 get-cell-requires : tie.Need-get-cell-requires
 get-cell-requires c κs = search needs
 
-get-recipe-requires : tie.Need-get-recipe-requires
-get-recipe-requires c κs = search needs
-
 plan-requires : tie.Need-plan-requires
 plan-requires c κs = search needs
 
@@ -27,15 +24,13 @@ same-length-2 c = search needs
 returns : tie.Need-returns
 returns c =
     let at-plan = c .before .before .before .before .before in
-    let at-get-recipe = at-plan .before .before .before in
-    plan-answered (at-get-recipe .before .get-cell .ensures) (at-get-recipe .get-recipe .ensures) (c .refusal-number .ensures) (at-plan .plan .ensures)
+    plan-answered (at-plan .before .before .before .get-cell .ensures) (c .refusal-number .ensures) (at-plan .plan .ensures)
 
 pub cellplan-plan-spec : {M : Type 1} → statement M
 cellplan-plan-spec =
     tie.close
     (tie.spec
     get-cell-requires
-    get-recipe-requires
     plan-requires
     refusal-number-requires
     cast-result

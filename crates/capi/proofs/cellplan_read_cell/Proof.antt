@@ -4,7 +4,8 @@ use mathlib.Core.Path.{sym, ap, _∙_, subst}
 use Prim.Native.Nat.{_≤_}
 use Rattle.cell.specs.declared.CellReading.{CellReading}
 use Rattle.cell.proofs.AcceptedRecord.{read-few}
-use Rattle.capi.specs.Encoding.{codeOf, cellBytes}
+use Rattle.records.specs.Encoding.{cellBytes}
+use Rattle.capi.specs.Encoding.{codeOf}
 use Rattle.capi.proofs.Answers.{too-short, answered}
 use borrow.Author.Needs.{needs}
 use Rattle.capi.proofs.cellplan_read_cell.Statement.{statement}

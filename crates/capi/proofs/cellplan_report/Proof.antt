@@ -1,4 +1,5 @@
 use mathlib.Core.Path.{_∙_}
+use Rattle.chapters.specs.Records.{chaptersFrom}
 use Rattle.run.specs.Calls.{reportOf}
 use Rattle.capi.proofs.Answers.{report-short, report-put}
 use borrow.Author.Needs.{needs}
@@ -10,9 +11,6 @@ get-run-requires c κs = search needs
 
 get-cell-requires : tie.Need-get-cell-requires
 get-cell-requires c κs = search needs
-
-get-recipe-requires : tie.Need-get-recipe-requires
-get-recipe-requires c κs = search needs
 
 report-requires : tie.Need-report-requires
 report-requires c κs = search needs
@@ -28,14 +26,13 @@ same-length c = search needs
 
 returns : tie.Need-returns
 returns c =
-    let at-get-run = c .before .before .before .before .before in
-    let start = c .before .before .before .before .before .before .before .before .before .before .before in
+    let at-get-run = c .before .before .before .before in
+    let start = c .before .before .before .before .before .before .before .before .before .before in
     report-short _ _ (start .args .buffer .now) _
     (c .before .before .report .ensures
     ∙
-    (λ i. reportOf (c .before .before .before .before .get-cell .ensures i)
-    (c .before .before .before .get-recipe .ensures i) (start .args .table .now) (at-get-run .get-run .ensures i)
-    (start .args .outcome)))
+    (λ i. reportOf (c .before .before .before .get-cell .ensures i) (chaptersFrom (start .args .recipes .now)) (start .args .table .now)
+    (at-get-run .get-run .ensures i) (start .args .outcome)))
     (c .before .refusal-number .ensures) (c .if1 .taken)
 
 put-run-requires : tie.Need-put-run-requires
@@ -49,14 +46,13 @@ returns-2 c =
     let at-if1 = c .before .before .before .before .before in
     let at-refusal-number = at-if1 .before in
     let at-report = at-refusal-number .before in
-    let at-get-recipe = at-report .before in
-    let at-get-cell = at-get-recipe .before in
+    let at-get-cell = at-report .before in
     let at-get-run = at-get-cell .before in
-    let start = c .before .before .before .before .before .before .before .before .before .before .before .before .before .before .before .before in
+    let start = c .before .before .before .before .before .before .before .before .before .before .before .before .before .before .before in
     report-put _ _ (start .args .buffer .now) _
     (at-report .report .ensures
     ∙
-    (λ i. reportOf (at-get-cell .get-cell .ensures i) (at-get-recipe .get-recipe .ensures i)
+    (λ i. reportOf (at-get-cell .get-cell .ensures i) (chaptersFrom (start .args .recipes .now))
     (start .args .table .now) (at-get-run .get-run .ensures i) (start .args .outcome)))
     (at-refusal-number .refusal-number .ensures) _ (at-if1 .if1 .left) (c .before .before .put-run .ensures)
 
@@ -66,7 +62,6 @@ cellplan-report-spec =
     (tie.spec
     get-run-requires
     get-cell-requires
-    get-recipe-requires
     report-requires
     refusal-number-requires
     cast-refusal

@@ -1,15 +1,12 @@
-use mathlib.Core.Path.{_≡_, refl, sym, subst, _∙_}
+use mathlib.Core.Path.{_≡_, refl, sym, _∙_}
 use Prim.Native.Nat.{ℕ, _<_}
 use native.Mathlib.Omega.{arith}
 use Rattle.cell.proofs.LongerCell.{Columns}
-use Rattle.positions.specs.declared.Sizes.{Sizes}
-use Rattle.positions.specs.Position as position
 use Rattle.positions.proofs.AcceptedRecords.{both-ok}
 use Rattle.refusals.proofs.Verdicts.{count-in-range}
 use Rattle.cell.proofs.AcceptedRecord.{each-accepts}
-use Rattle.simulation.specs.Simulation.{Greatest}
 use Rattle.marks.proofs.MarkSets.{same-room}
-use Rattle.planner.proofs.PlanAnswers.{records-refused, call-checked, rules-passed}
+use Rattle.planner.proofs.OnePlan.{one-refused, one-tried, one-passed, held-realisable, realisable-held}
 use Rattle.install.proofs.InstallAnswers.{plan-refused, full-refused, free-accepted, install-refused, install-none, install-listed}
 use borrow.Author.Needs.{needs}
 use borrow.Author.Needs.{length-unmapped}
@@ -28,7 +25,7 @@ enum-told-2 c = search needs
 returns : tie.Need-returns
 returns c =
     let told = c .enum-told2 .given .1 in
-    install-refused _ _ _ _ _ (plan-refused _ _ _ _ (records-refused _ _ _ _ (c .before .before .check-records .ensures) told) told) told
+    install-refused _ _ _ _ _ (plan-refused _ _ _ _ (one-refused _ _ _ _ (c .before .before .check-records .ensures) told) told) told
 
 measure-requires : tie.Need-measure-requires
 measure-requires c κs = both-ok _ _ (sym (c .before .before .check-records .ensures) ∙ c .enum-told .given .1)
@@ -48,7 +45,7 @@ returns-2 c =
     let told = c .enum-told4 .given .1 in
     install-refused _ _ _ _ _
     (plan-refused _ _ _ _
-    (call-checked _ _ _ _ (fine .before .before .check-records .ensures) (fine .enum-told .given .1)
+    (one-tried _ _ _ _ (fine .before .before .check-records .ensures) (fine .enum-told .given .1)
     (c .before .before .before .measure .ensures .0) (c .before .before .check-call .ensures))
     told)
     told
@@ -62,7 +59,7 @@ returns-3 c =
     let records = fine .before .before in
     let start = records .before .before .before .before in
     let passed =
-    rules-passed _ _ (start .args .table .now) (start .args .scratch .now) (records .check-records .ensures)
+    one-passed _ _ (start .args .table .now) (start .args .scratch .now) (records .check-records .ensures)
     (fine .enum-told .given .1) (sized .measure .ensures .0) (called .check-call .ensures)
     (told .enum-told3 .given .1) in
     install-refused _ _ _ _ _ (full-refused _ _ _ _ (passed .accepted) (c .if1 .taken)) refl
@@ -76,7 +73,7 @@ is-realisable-requires c κs =
     let records = fine .before .before in
     let start = records .before .before .before .before in
     let passed =
-    rules-passed _ _ (start .args .table .now) (start .args .scratch .now) (records .check-records .ensures)
+    one-passed _ _ (start .args .table .now) (start .args .scratch .now) (records .check-records .ensures)
     (fine .enum-told .given .1) (sized .measure .ensures .0) (called .check-call .ensures)
     (told .enum-told3 .given .1) in
     (passed .checked, (passed .long, passed .roomy))
@@ -98,7 +95,7 @@ returns-4 c =
     let records = fine .before .before in
     let start = records .before .before .before .before in
     let passed =
-    rules-passed _ _ (start .args .table .now) (start .args .scratch .now) (records .check-records .ensures)
+    one-passed _ _ (start .args .table .now) (start .args .scratch .now) (records .check-records .ensures)
     (fine .enum-told .given .1) (sized .measure .ensures .0) (called .check-call .ensures)
     (told .enum-told3 .given .1) in
     let count = count-in-range _ (each-accepts _ (passed .checked .cell-passes) .third) .most in
@@ -106,7 +103,7 @@ returns-4 c =
     let low : start .args .cell .count < 64 = omega arith in
     install-none _ _ _ _ _ (free-accepted _ _ _ _ (passed .accepted) low) (decided .is-realisable .kept .1 .1 .1 .0)
     (decided .is-realisable .kept .1 .1 .1 .1 .0)
-    (subst (λ (z : Sizes). Greatest (start .args .cell) (start .args .recipe) z 0 position.start) (passed .own) (decided .is-realisable .ensures .yes-holds (c .if2 .taken)))
+    (held-realisable _ _ _ (passed .own) (decided .is-realisable .ensures .yes-holds (c .if2 .taken)))
 
 seek-requires : tie.Need-seek-requires
 seek-requires c κs =
@@ -119,7 +116,7 @@ seek-requires c κs =
     let records = fine .before .before in
     let start = records .before .before .before .before in
     let passed =
-    rules-passed _ _ (start .args .table .now) (start .args .scratch .now) (records .check-records .ensures)
+    one-passed _ _ (start .args .table .now) (start .args .scratch .now) (records .check-records .ensures)
     (fine .enum-told .given .1) (sized .measure .ensures .0) (called .check-call .ensures)
     (told .enum-told3 .given .1) in
     let count = count-in-range _ (each-accepts _ (passed .checked .cell-passes) .third) .most in
@@ -162,7 +159,7 @@ returns-5 c =
     let records = fine .before .before in
     let start = records .before .before .before .before in
     let passed =
-    rules-passed _ _ (start .args .table .now) (start .args .scratch .now) (records .check-records .ensures)
+    one-passed _ _ (start .args .table .now) (start .args .scratch .now) (records .check-records .ensures)
     (fine .enum-told .given .1) (sized .measure .ensures .0) (called .check-call .ensures)
     (told .enum-told3 .given .1) in
     let count = count-in-range _ (each-accepts _ (passed .checked .cell-passes) .third) .most in
@@ -182,7 +179,7 @@ returns-5 c =
     (sought .seek .kept .1 .1 .1 .1 .0 ∙ decided .is-realisable .kept .1 .1 .1 .1 .0) _
     (record { columns = C; checked = passed .checked; own = passed .own; free = low })
     (λ realisable. decided .is-realisable .ensures .no-lacks (sought .before .before .before .before .if2 .left)
-    (subst (λ (z : Sizes). Greatest (start .args .cell) (start .args .recipe) z 0 position.start) (sym (passed .own)) realisable))
+    (realisable-held _ _ _ (passed .own) realisable))
     (sought .seek .ensures .0) (sought .seek .ensures .1)
 
 pub install-spec : {M : Type 1} → statement M

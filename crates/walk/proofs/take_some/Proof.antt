@@ -1,5 +1,6 @@
 use mathlib.Core.Path.{_∙_}
 use lib.Seq.{length-take-le}
+use Rattle.records.specs.Encoding.{recipeFrom}
 use Rattle.walk.proofs.InputReads.{prefix-counts, step-ended, step-failed, step-written}
 use borrow.Author.Needs.{needs}
 use Rattle.walk.proofs.take_some.Statement.{statement}
@@ -16,8 +17,8 @@ same-length c = search needs
 
 returns : tie.Need-returns
 returns c =
-    let s = c .before .before .before .before .before .before .before .before .before .before .args in
-    step-ended (s .cell) (s .recipe) (s .table .now) (s .run)
+    let s = c .before .before .before .before .before .before .before .before .before .before .before .args in
+    step-ended (s .cell) (recipeFrom (s .recipes .now)) (s .table .now) (s .run)
     (c .before .before .before .before .before .read .last .1 .0) (s .text .now) (c .before .count .result)
     (c .if1 .taken)
 
@@ -50,11 +51,11 @@ same-length-3 c = search needs
 returns-2 : tie.Need-returns-2
 returns-2 c =
     let s =
-    c .before .before .before .before .before .before .before .before .before .before .before .before .before .before .before .before .before .before .before .args in
+    c .before .before .before .before .before .before .before .before .before .before .before .before .before .before .before .before .before .before .before .before .args in
     let count = c .before .before .before .before .before .before .before .before .before .before .count in
     let answers = c .before .before .before .before .before .before .answers in
     let whole = c .before .print .ensures ∙ length-take-le (answers .result .length) (answers .last .1 .1 .1 .1 .1 .0) (answers .ensures .inside) in
-    step-failed (s .cell) (s .recipe) (s .table .now) (s .run)
+    step-failed (s .cell) (recipeFrom (s .recipes .now)) (s .table .now) (s .run)
     (c .before .before .before .before .before .before .before .before .before .before .before .before .before .before .read .last .1 .0)
     (answers .last .1 .1 .1 .1 .1 .0) (count .result) (count .ensures .0 .0) (answers .result) (answers .ensures)
     (c .before .print .result .length) whole
@@ -68,12 +69,12 @@ same-length-5 c = search needs
 returns-3 : tie.Need-returns-3
 returns-3 c =
     let s =
-    c .before .before .before .before .before .before .before .before .before .before .before .before .before .before .before .before .before .before .before .args in
+    c .before .before .before .before .before .before .before .before .before .before .before .before .before .before .before .before .before .before .before .before .args in
     let count = c .before .before .before .before .before .before .before .before .before .before .count in
     let answers = c .before .before .before .before .before .before .answers in
     let whole = c .before .print .ensures ∙ length-take-le (answers .result .length) (answers .last .1 .1 .1 .1 .1 .0) (answers .ensures .inside) in
     let step =
-    step-written (s .cell) (s .recipe) (s .table .now) (s .run)
+    step-written (s .cell) (recipeFrom (s .recipes .now)) (s .table .now) (s .run)
     (c .before .before .before .before .before .before .before .before .before .before .before .before .before .before .read .last .1 .0)
     (answers .last .1 .1 .1 .1 .1 .0) (count .result) (count .ensures .0 .0) (answers .result) (answers .ensures)
     (c .before .print .result .length) whole

@@ -4,9 +4,9 @@ use super::{
     limited_cell, numbered, recipe_of_lines, some_limits, CellLine, RecipeLine, END_LINE, NO_LIMITS,
 };
 use crate::cell::{Cell, GATE, IN, INTERNAL, OPERATION, OUT};
-use crate::plan::check_to_plan;
 use crate::random::Random;
 use crate::recipe::{Recipe, DO, TEST};
+use crate::single::check_to_plan;
 use crate::sizes::Sizes;
 
 /// The fewest configurations of a chain, and the fewest moves after which its last station has counted to its
@@ -203,7 +203,7 @@ fn reorder(items: &mut [u8], random: &mut Random) {
 mod tests {
     use super::*;
     use crate::entry::{kind_of, letters_of, CARRY, INTERNAL, TRANSFER};
-    use crate::fixtures::planned;
+    use crate::fixtures::{alone, planned};
     use crate::judge::longest_way;
 
     /// How often items rise, fall, and do neither.
@@ -268,7 +268,7 @@ mod tests {
             assert!(sizes.positions <= 60_000);
             assert!(sizes.joint_states * sizes.placings >= FEWEST_CONFIGURATIONS);
             let (refusal, table) = planned(&cell, &recipe);
-            let longest = longest_way(&cell, &recipe, &table);
+            let longest = longest_way(&cell, &alone(&cell, &recipe), &table);
             let refused = usize::from(refusal == 15);
             answers[refused] += 1;
             long[refused] += usize::from(longest.is_ok_and(|moves| moves > 100));

@@ -4,10 +4,9 @@
 use super::{cell_of_lines, keeping, recipe_of_lines, walk, CellLine, RecipeLine, Shape, END_LINE};
 use crate::cell::{Cell, GATE, IN, INTERNAL, OPERATION, OUT};
 use crate::install::realisable_by_single_moves;
-use crate::plan::check_to_plan;
 use crate::random::Random;
 use crate::recipe::{Recipe, DO, TEST};
-use crate::run::check;
+use crate::single::{check, check_to_plan};
 use crate::sizes::{Sizes, MOST_POSITIONS};
 use crate::table::MOST_LINES;
 
@@ -162,7 +161,7 @@ mod tests {
     use super::*;
     use crate::book::Book;
     use crate::entry::{kind_of, CARRY, INTERNAL, STAY, TRANSFER};
-    use crate::fixtures::planned;
+    use crate::fixtures::{alone, planned};
     use crate::install::missing_processes;
     use crate::judge::{judge, longest_way};
 
@@ -210,7 +209,8 @@ mod tests {
     fn follow_long_ways((cell, recipe): &(Cell, Recipe), most: u64) {
         let (refusal, table) = planned(cell, recipe);
         assert_eq!(refusal, 0);
-        let mut book = Book::new(cell, recipe, &table);
+        let joined = alone(cell, recipe);
+        let mut book = Book::new(cell, &joined, &table);
         for point in [0, 1, 0] {
             for silent_moves in 1..=most {
                 assert_eq!(book.report(0).refusal, 0);
@@ -222,7 +222,7 @@ mod tests {
             assert_eq!(book.report(0).refusal, 0);
             assert_eq!(book.silent_moves(), 0);
         }
-        assert_eq!(longest_way(cell, recipe, &table), Ok(most));
+        assert_eq!(longest_way(cell, &joined, &table), Ok(most));
     }
 
     #[test]
@@ -255,7 +255,8 @@ mod tests {
         assert_eq!(usize::from(cell.count), 48 + 12);
         assert_eq!(cell.line(48), [0, 0, GATE, 0, 3]);
         let (refusal, table) = planned(&cell, &recipe);
-        assert_eq!((refusal, judge(&cell, &recipe, &table)), (0, Ok(0)));
+        let judged = judge(&cell, &alone(&cell, &recipe), &table);
+        assert_eq!((refusal, judged), (0, Ok(0)));
         // Only what is tested gets a gate, and only as long as there is room.
         let (cell, recipe) = long_ways_pair(3, 5);
         assert_eq!(with_gates((cell.clone(), recipe.clone())), (cell, recipe));

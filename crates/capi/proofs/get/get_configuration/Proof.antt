@@ -38,7 +38,7 @@ unfolding runFrom tabulate
 returns c =
     let at-six = c .before .before .before .before .before .before .before .before in
     let start = at-six .before .before in
-    rw (at-six .six .ensures, le-ltb (length (start .args .bytes .now)) 15 (start .pre))
+    rw (at-six .six .ensures, le-ltb (length (start .args .bytes .now)) 16 (start .pre))
 
 pub get-configuration-spec : {M : Type 1} → statement M
 get-configuration-spec =

@@ -1,16 +1,24 @@
+use mathlib.Core.Path.{_≡_, _∙_}
+use mathlib.Core.Bool.{false}
+use mathlib.Core.List.{List, _++_}
+use native.Mathlib.Omega.{arith}
+use lib.ListN.{length}
 use Rattle.refusals.specs.declared.Verdict.{Verdict}
-use mathlib.Core.Path.{sym, ap, _∙_}
 use Rattle.refusals.specs.Verdict.{firstRefusal}
 use Rattle.refusals.proofs.Rules.{part-refuses, part-accepts}
-use Rattle.positions.specs.declared.Sizes.{Sizes}
-use Rattle.positions.specs.Sizes.{sizesOf}
-use Rattle.positions.specs.Rules.{recordRules, checkRecords}
-use Rattle.positions.proofs.AcceptedRecords.{both-ok}
+use Rattle.chapters.specs.Joined.{Chapters}
+use Rattle.chapters.specs.Sizes.{sizesIn}
+use Rattle.chapters.specs.Rules.{recordRules}
+use Rattle.chapters.specs.Records.{chaptersFrom}
 use Rattle.run.specs.Calls.{runRules, placeRules, partPlace}
+use Rattle.run.proofs.CountedRules.{cell-passed, small, Measured, run-rules}
 use Rattle.run.proofs.Answers.{placeAnswer, place-refused, place-accepted, place-past, place-there}
 use borrow.Author.Needs.{needs}
 use Rattle.run.proofs.Run.place.Statement.{statement}
 use Rattle.run.proofs.Run.place.Tie as tie
+
+cast-check-records : tie.Need-cast-check-records
+cast-check-records c = search needs
 
 check-records-requires : tie.Need-check-records-requires
 check-records-requires c κs = search needs
@@ -22,16 +30,44 @@ enum-told-2 : tie.Need-enum-told-2
 enum-told-2 c = search needs
 
 returns : tie.Need-returns
-unfolding partPlace placeAnswer placeRules runRules checkRecords
+unfolding partPlace placeAnswer placeRules
 returns c =
-    let s = c .before .before .before .args in
+    let s = c .before .before .before .before .before .args in
+    let rs = chaptersFrom (s .recipes .now) in
     place-refused _
-    (part-refuses (recordRules (s .cell) (s .recipe)) (runRules (sizesOf (s .cell) (s .recipe)) (s .self))
-    (c .before .before .check-records .ensures) (c .enum-told2 .given .1))
+    (part-refuses (recordRules false (s .cell) rs) (runRules (sizesIn (s .cell) rs) (length rs) (s .self))
+    (c .before .before .check-records .ensures .told) (c .enum-told2 .given .1))
     (c .enum-told2 .given .1)
 
-measure-requires : tie.Need-measure-requires
-measure-requires c κs = both-ok _ _ (sym (c .before .before .check-records .ensures) ∙ c .enum-told .given .1)
+measure-for-requires : tie.Need-measure-for-requires
+measure-for-requires c κs =
+    let tried = c .before .before .check-records .ensures in
+    let few = small _ _ _ _ tried (c .enum-told .given .1) in
+    (cell-passed _ _ _ _ tried (c .enum-told .given .1), (few .most, few .parts))
+
+with-points-requires : tie.Need-with-points-requires
+with-points-requires c κs =
+    let at-told = c .before in
+    (c .measure-for .ensures .1, small _ _ _ _ (at-told .before .before .check-records .ensures) (at-told .enum-told .given .1) .own)
+
+-- what is known once both sizes are measured
+abbrev start : tie.After-with-points → tie.Start
+start c = c .before .before .before .before .before .before .before
+
+abbrev chapters : tie.After-with-points → Chapters
+chapters c = chaptersFrom (start c .args .recipes .now)
+
+measured : (c : tie.After-with-points)
+    → Measured (start c .args .cell) (chapters c) (start c .args .self) (c .before .before .before .before .check-records .result)
+    (c .before .measure-for .result) (c .with-points .result)
+measured c =
+    record {
+      tried = c .before .before .before .before .check-records .ensures;
+      accepted = c .before .before .enum-told .given .1;
+      most-is = c .before .measure-for .ensures .0;
+      most-fits = c .before .measure-for .ensures .1;
+      own-is = c .with-points .ensures .0;
+    }
 
 check-run-requires : tie.Need-check-run-requires
 check-run-requires c κs = search needs
@@ -42,67 +78,53 @@ enum-told-3 c = search needs
 enum-told-4 : tie.Need-enum-told-4
 enum-told-4 c = search needs
 
+-- the verdict on the run is that of the rules of a place call
+abbrev rules : tie.After-with-points → List Verdict
+rules c = runRules (sizesIn (start c .args .cell) (chapters c)) (length (chapters c)) (start c .args .self)
+
+told : (c : tie.After-check-run)
+    → c .check-run .result ≡ firstRefusal (recordRules false (start (c .before) .args .cell) (chapters (c .before)) ++ rules (c .before))
+told c =
+    let M = measured (c .before) in
+    part-accepts (recordRules false (start (c .before) .args .cell) (chapters (c .before))) (rules (c .before)) (M .tried .told)
+    (M .accepted) (c .check-run .ensures ∙ run-rules _ _ _ _ _ _ M)
+
 returns-2 : tie.Need-returns-2
-unfolding partPlace placeAnswer placeRules runRules checkRecords
-returns-2 c =
-    let at-check-records = c .before .before .before .before .before .before in
-    let start = c .before .before .before .before .before .before .before in
-    let rest : Sizes → Verdict = (λ z. firstRefusal (runRules z (start .args .self))) in
-    let records = recordRules (start .args .cell) (start .args .recipe) in
-    let rules = runRules (sizesOf (start .args .cell) (start .args .recipe)) (start .args .self) in
-    place-refused _
-    (part-accepts records rules (at-check-records .check-records .ensures)
-    (c .before .before .before .before .enum-told .given .1)
-    (c .before .before .check-run .ensures ∙ ap rest (c .before .before .before .measure .ensures .0)))
-    (c .enum-told4 .given .1)
+unfolding partPlace placeAnswer placeRules
+returns-2 c = place-refused _ (told (c .before .before)) (c .enum-told4 .given .1)
 
 returns-3 : tie.Need-returns-3
-unfolding partPlace placeAnswer placeRules runRules checkRecords
+unfolding partPlace placeAnswer placeRules
 returns-3 c =
-    let at-measure = c .before .before .before .before .before in
-    let at-enum-told = at-measure .before in
-    let at-check-records = at-enum-told .before .before in
-    let start = c .before .before .before .before .before .before .before .before .before in
-    let rest : Sizes → Verdict = (λ z. firstRefusal (runRules z (start .args .self))) in
-    let records = recordRules (start .args .cell) (start .args .recipe) in
-    let rules = runRules (sizesOf (start .args .cell) (start .args .recipe)) (start .args .self) in
-    let sized = at-measure .measure .ensures .0 in
-    let placed = sym (c .before .before .enum-told3 .given .1) ∙ c .before .before .before .before .check-run .ensures ∙ ap rest sized in
-    place-accepted _
-    (part-accepts records rules (at-check-records .check-records .ensures) (at-enum-told .enum-told .given .1)
-    placed)
-    (place-past _ _ sized (c .if1 .taken))
+    let at-run = c .before .before .before .before in
+    let M = measured (at-run .before) in
+    place-accepted _ (told at-run) (c .before .before .enum-told3 .given .1)
+    (place-past _ _ (M .tried .counted (M .accepted) .parts-is) (c .if1 .taken))
 
 array-read-t16 : tie.Need-array-read-t16
-array-read-t16 c = search needs
+array-read-t16 c =
+    let M = measured (c .before .before .before .before .before .before .before) in
+    omega (arith, small _ _ _ _ (M .tried) (M .accepted) .parts, c .before .before .if1 .left)
 
 returns-4 : tie.Need-returns-4
-unfolding partPlace placeAnswer placeRules runRules checkRecords
+unfolding partPlace placeAnswer placeRules
 returns-4 c =
-    let at-check-run = c .before .before .before .before .before .before in
-    let at-measure = at-check-run .before in
-    let at-enum-told = at-measure .before in
-    let at-check-records = at-enum-told .before .before in
-    let start = c .before .before .before .before .before .before .before .before .before .before .before in
-    let rest : Sizes → Verdict = (λ z. firstRefusal (runRules z (start .args .self))) in
-    let records = recordRules (start .args .cell) (start .args .recipe) in
-    let rules = runRules (sizesOf (start .args .cell) (start .args .recipe)) (start .args .self) in
-    let sized = at-measure .measure .ensures .0 in
-    let placed = sym (c .before .before .before .before .enum-told3 .given .1) ∙ at-check-run .check-run .ensures ∙ ap rest sized in
-    place-accepted _
-    (part-accepts records rules (at-check-records .check-records .ensures) (at-enum-told .enum-told .given .1)
-    placed)
-    (place-there _ _ sized (c .before .before .if1 .left))
+    let at-run = c .before .before .before .before .before .before in
+    let M = measured (at-run .before) in
+    place-accepted _ (told at-run) (c .before .before .before .before .enum-told3 .given .1)
+    (place-there _ _ (M .tried .counted (M .accepted) .parts-is) (c .before .before .if1 .left))
 
 pub place-spec : {M : Type 1} → statement M
 place-spec =
     tie.close
     (tie.spec
+    cast-check-records
     check-records-requires
     enum-told
     enum-told-2
     returns
-    measure-requires
+    measure-for-requires
+    with-points-requires
     check-run-requires
     enum-told-3
     enum-told-4

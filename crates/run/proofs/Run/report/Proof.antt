@@ -1,16 +1,41 @@
-use mathlib.Core.Path.{sym, ap, _∙_}
-use Prim.Native.Nat.{ℕ}
+use mathlib.Core.Path.{_≡_, refl, sym, _∙_}
+use native.Mathlib.Omega.{arith}
 use borrow.Author.Tests.{not-true, not-false}
-use Rattle.steps.specs.Effect.{makes, leadsTo}
-use Rattle.run.specs.Calls.{nextRun}
-use Rattle.run.proofs.AcceptedRun.{table-judged}
-use Rattle.run.proofs.Answers.{passed, entry-found, report-early, report-17, report-18, report-19, report-made}
+use Rattle.chapters.specs.Records.{chaptersFrom}
+use Rattle.run.specs.declared.Run.{Run}
+use Rattle.run.specs.Inner.{Tallied, findEntry}
+use Rattle.run.proofs.AcceptedRun.{lead-below}
+use Rattle.run.proofs.CountedRules.{tallied}
+use Rattle.run.proofs.Answers.{Kept, kept, Made, report-early, report-17, report-18, report-19, report-stays, report-lands}
 use borrow.Author.Needs.{needs}
 use Rattle.run.proofs.Run.report.Statement.{statement}
 use Rattle.run.proofs.Run.report.Tie as tie
 
-find-entry-requires : tie.Need-find-entry-requires
-find-entry-requires c κs = search needs
+cast-check-records : tie.Need-cast-check-records
+cast-check-records c = search needs
+
+check-records-requires : tie.Need-check-records-requires
+check-records-requires c κs = search needs
+
+without-recipe-requires : tie.Need-without-recipe-requires
+without-recipe-requires c κs = search needs
+
+abbrev start : tie.After-without-recipe → tie.Start
+start c = c .before .before .before .before .before
+
+tells : (c : tie.After-without-recipe)
+    → Tallied (start c .args .cell) (chaptersFrom (start c .args .recipes .now)) (start c .args .self) (c .without-recipe .result)
+tells c = tallied _ _ _ _ _ (c .without-recipe .ensures) (c .before .check-records .ensures)
+
+find-requires : tie.Need-find-requires
+find-requires c κs = (_, tells c)
+
+-- what was found
+found : (c : tie.After-find)
+    → c .find .result
+    ≡ findEntry (start (c .before) .args .cell) (chaptersFrom (start (c .before) .args .recipes .now)) (start (c .before) .args .table .now)
+    (start (c .before) .args .self)
+found c = c .find .ensures _ (tells (c .before))
 
 enum-told : tie.Need-enum-told
 enum-told c = search needs
@@ -19,112 +44,131 @@ enum-told-2 : tie.Need-enum-told-2
 enum-told-2 c = search needs
 
 returns : tie.Need-returns
-returns c = report-early _ _ _ _ _ (c .before .before .find-entry .ensures) (c .enum-told2 .given .1) _
+returns c =
+    let at-find = c .before .before in
+    report-early _ _ _ _ _ (at-find .before .before .check-records .ensures) _ (found at-find) (c .enum-told2 .given .1) _
 
 refused-requires : tie.Need-refused-requires
 refused-requires c κs = search needs
 
 returns-2 : tie.Need-returns-2
 returns-2 c =
-    report-17 _ _ _ _ _ (c .before .before .before .before .find-entry .ensures)
-    (c .before .before .enum-told .given .1) _ _ (c .before .if1 .taken) (c .refused .ensures .0)
-    (c .refused .ensures .1)
+    let at-told = c .before .before in
+    let at-find = at-told .before .before in
+    report-17 _ _ _ _ _ (at-find .before .before .check-records .ensures) _ (found at-find) (at-told .enum-told .given .1) _ _
+    (c .before .if1 .taken) (c .refused .ensures .0) (c .refused .ensures .1)
+
+-- what is known of the recipe that was kept
+keeps : (c : tie.After-enum-told)
+    → Kept (start (c .before .before .before) .args .cell) (c .before .before .before .before .check-records .result .recipe)
+    (start (c .before .before .before) .args .self)
+keeps c =
+    let at-find = c .before .before in
+    kept _ _ _ _ _ (at-find .before .before .check-records .ensures) _ (found at-find) (c .enum-told .given .1)
 
 is-open-requires : tie.Need-is-open-requires
-is-open-requires c κs =
-    let j =
-    table-judged _ _ _ _
-    (passed _ _ _ _ _ (c .before .before .before .find-entry .ensures) (c .before .enum-told .given .1)) in
-    (j .checked .cell-passes, (j .checked .recipe-passes, j .point-below))
+is-open-requires c κs = let K = keeps (c .before) in (K .cell-passes, (K .recipe-passes, K .point-below))
 
 refused-requires-2 : tie.Need-refused-requires-2
 refused-requires-2 c κs = search needs
 
 returns-3 : tie.Need-returns-3
 returns-3 c =
-    let at-find-entry = c .before .before .before .before .before .before in
-    report-18 _ _ _ _ _ (at-find-entry .find-entry .ensures)
-    (c .before .before .before .before .enum-told .given .1) _ (c .before .before .before .if1 .left) _
-    (c .before .before .is-open .ensures) _ (not-true _ (c .before .if2 .taken)) (c .refused2 .ensures .0)
-    (c .refused2 .ensures .1)
+    let at-told = c .before .before .before .before in
+    let at-find = at-told .before .before in
+    report-18 _ _ _ _ _ (at-find .before .before .check-records .ensures) _ (found at-find) (at-told .enum-told .given .1) _
+    (c .before .before .before .if1 .left) _ (c .before .before .is-open .ensures) _ (not-true _ (c .before .if2 .taken))
+    (c .refused2 .ensures .0) (c .refused2 .ensures .1)
 
 point-kind-requires : tie.Need-point-kind-requires
-point-kind-requires c κs =
-    let at-find-entry = c .before .before .before .before .before in
-    let j =
-    table-judged _ _ _ _
-    (passed _ _ _ _ _ (at-find-entry .find-entry .ensures) (c .before .before .before .enum-told .given .1)) in
-    (j .checked .recipe-passes, j .point-below)
+point-kind-requires c κs = let K = keeps (c .before .before .before) in (K .recipe-passes, K .point-below)
 
 refused-requires-3 : tie.Need-refused-requires-3
 refused-requires-3 c κs = search needs
 
 returns-4 : tie.Need-returns-4
 returns-4 c =
-    let at-if1 = c .before .before .before .before .before in
-    let at-enum-told = at-if1 .before in
-    let at-find-entry = at-enum-told .before .before in
-    report-19 _ _ _ _ _ (at-find-entry .find-entry .ensures) (at-enum-told .enum-told .given .1) _
-    (at-if1 .if1 .left) _ (c .before .before .before .before .is-open .ensures)
-    (not-false _ (c .before .before .before .if2 .left)) _ (c .before .before .point-kind .ensures) _
-    (c .before .if3 .taken) (c .refused3 .ensures .0) (c .refused3 .ensures .1)
+    let at-open = c .before .before .before .before in
+    let at-told = at-open .before .before in
+    let at-find = at-told .before .before in
+    report-19 _ _ _ _ _ (at-find .before .before .check-records .ensures) _ (found at-find) (at-told .enum-told .given .1) _
+    (at-open .before .if1 .left) _ (at-open .is-open .ensures) (not-false _ (c .before .before .before .if2 .left)) _
+    (c .before .before .point-kind .ensures) _ (c .before .if3 .taken) (c .refused3 .ensures .0) (c .refused3 .ensures .1)
 
 make-requires : tie.Need-make-requires
 make-requires c κs =
-    let at-enum-told = c .before .before .before .before .before in
-    let at-find-entry = at-enum-told .before .before in
-    let j =
-    table-judged _ _ _ _
-    (passed _ _ _ _ _ (at-find-entry .find-entry .ensures) (at-enum-told .enum-told .given .1)) in (
-      j .checked .cell-passes,
-      (
-        j .checked .recipe-passes,
-        (
-          j .point-below,
-          sym (c .before .before .before .is-open .ensures)
-              ∙ not-false _ (c .before .before .if2 .left),
-        ),
-      ),
-    )
+    let at-open = c .before .before .before in
+    let K = keeps (at-open .before .before) in
+    (K .cell-passes, (K .recipe-passes, (K .point-below, sym (at-open .is-open .ensures) ∙ not-false _ (c .before .before .if2 .left))))
 
 lead-requires : tie.Need-lead-requires
-lead-requires c κs =
-    let at-enum-told = c .before .before .before .before .before .before in
-    let at-find-entry = at-enum-told .before .before in
-    let j =
-    table-judged _ _ _ _
-    (passed _ _ _ _ _ (at-find-entry .find-entry .ensures) (at-enum-told .enum-told .given .1)) in
-    (j .checked .recipe-passes, j .point-below)
+lead-requires c κs = let K = keeps (c .before .before .before .before .before .before) in (K .recipe-passes, K .point-below)
+
+number-requires : tie.Need-number-requires
+number-requires c κs = search needs
+
+cast-if4 : tie.Need-cast-if4
+cast-if4 c = search needs
+
+add-if4 : tie.Need-add-if4
+add-if4 c = search needs
+
+-- the run before it lands
+abbrev at-told-of : tie.After-lead → tie.After-enum-told
+at-told-of c = c .before .before .before .before .before .before .before
+
+abbrev begin : tie.After-lead → tie.Start
+begin c = start (at-told-of c .before .before .before)
+
+abbrev moved : tie.After-lead → Run
+moved c = record { point = c .lead .result; configuration = c .before .make .result; chapter = begin c .args .self .chapter }
+
+made : (c : tie.After-lead)
+    → Made (begin c .args .cell) (at-told-of c .before .before .before .before .check-records .result .recipe) (begin c .args .self)
+    (at-told-of c .before .before .find .result .entry) (begin c .args .outcome) (moved c)
+made c =
+    let at-kind = c .before .before .before in
+    let at-open = at-kind .before .before in
+    record {
+      low = at-open .before .if1 .left;
+      opened = sym (at-open .is-open .ensures) ∙ not-false _ (at-kind .before .if2 .left);
+      some = λ z. c .before .before .if3 .left (at-kind .point-kind .ensures ∙ z);
+      point-is = c .lead .ensures;
+      configuration-is = c .before .make .ensures;
+      chapter-is = refl;
+    }
 
 returns-5 : tie.Need-returns-5
-unfolding nextRun
 returns-5 c =
-    let at-is-open = c .before .before .before .before .before in
-    let at-if1 = at-is-open .before in
-    let at-enum-told = at-if1 .before in
-    let at-find-entry = at-enum-told .before .before in
-    let start = c .before .before .before .before .before .before .before .before .before .before .before in
-    let entry = entry-found _ _ _ _ _ (at-find-entry .find-entry .ensures) (at-enum-told .enum-told .given .1) in
-    report-made _ _ _ _ _ (at-find-entry .find-entry .ensures) (at-enum-told .enum-told .given .1) _
-    (at-if1 .if1 .left) _ (at-is-open .is-open .ensures)
-    (not-false _ (c .before .before .before .before .if2 .left)) _ (c .before .before .before .point-kind .ensures)
-    _ (c .before .before .if3 .left)
-    (λ i. record {
-      point = (c .lead .ensures ∙ ap (λ (e : ℕ). leadsTo (start .args .recipe) (start .args .self .point) e (start .args .outcome)) entry) i;
-      configuration =
-          (c .before .make .ensures
-          ∙ ap
-          (λ (e : ℕ). makes (start .args .cell) (start .args .recipe) (start .args .self .point)
-          (start .args .self .configuration) e (start .args .outcome))
-          entry)
-          i;
-    })
+    let at-lead = c .before .before .before in
+    let at-told = at-told-of at-lead in
+    let at-find = at-told .before .before in
+    report-stays _ _ _ _ _ (at-find .before .before .check-records .ensures) _ (found at-find) (at-told .enum-told .given .1) _
+    (moved at-lead) (made at-lead) (omega (arith, c .before .before .number .ensures, c .if4 .taken))
+
+land-requires : tie.Need-land-requires
+land-requires c κs =
+    let at-lead = c .before .before .before in
+    let K = keeps (at-told-of at-lead) in
+    let below = lead-below _ _ _ _ (K .recipe-passes) (K .point-below) (made at-lead .some) in
+    (K .recipe-passes, (rw (at-lead .lead .ensures) below, K .chapter-below))
+
+returns-6 : tie.Need-returns-6
+returns-6 c =
+    let at-lead = c .before .before .before .before in
+    let at-told = at-told-of at-lead in
+    let at-find = at-told .before .before in
+    report-lands _ _ _ _ _ (at-find .before .before .check-records .ensures) _ (found at-find) (at-told .enum-told .given .1) _
+    (moved at-lead) (made at-lead) _ (omega (arith, c .before .before .before .number .ensures, c .before .if4 .left)) (c .land .ensures)
 
 pub report-spec : {M : Type 1} → statement M
 report-spec =
     tie.close
     (tie.spec
-    find-entry-requires
+    cast-check-records
+    check-records-requires
+    without-recipe-requires
+    find-requires
     enum-told
     enum-told-2
     returns
@@ -138,4 +182,9 @@ report-spec =
     returns-4
     make-requires
     lead-requires
-    returns-5)
+    number-requires
+    cast-if4
+    add-if4
+    returns-5
+    land-requires
+    returns-6)
