@@ -1,5 +1,5 @@
 -- What a cell and chapters have that their rules accept, and back. Assumes nothing.
-use mathlib.Core.Path.{_≡_, refl, sym, ap, _∙_}
+use mathlib.Core.Path.{_≡_, refl, sym, ap, _∙_, subst}
 use mathlib.Core.Bool.{Bool, true, false, cond, _&&_, _||_, true≢false}
 use mathlib.Core.List.{[], _∷_, _++_}
 use Prim.Native.Nat.{ℕ, suc, _<_, _≤_}
@@ -22,10 +22,12 @@ use Rattle.positions.specs.Sizes.{sizesFor, withPoints}
 use Rattle.positions.proofs.SizeBounds.{with-points}
 use Rattle.steps.specs.Lines.{kindOf}
 use Rattle.reached.specs.Reached.{rule22}
+use Rattle.chapters.specs.declared.Seen.{Seen}
 use Rattle.chapters.specs.Joined.{Chapters, chapterAt, isEarlier}
 use Rattle.chapters.specs.Sizes.{Measures, pointsAt, sizesIn}
 use Rattle.chapters.specs.Rules.{rule24, rule24Joint, chapterRules, chaptersRules, recordRules, rule13}
 use Rattle.chapters.specs.Checked.{AllChecked}
+use Rattle.chapters.specs.Survey.{Sees, SeesAt}
 use Rattle.chapters.proofs.RulesInTurn.{turn-at, turns-accept}
 use Rattle.chapters.proofs.ChapterSizes.{few-each, parts-few, chapter-parts}
 
@@ -199,3 +201,13 @@ module _ (c : Cell) (rs : Chapters) (zs : Measures) (checked : AllChecked c rs z
     pub same-ways : zs k .ways ≡ zs 0 .ways
     unfolding withPoints
     same-ways = ap (λ (z : Sizes). z .ways) same-sizes
+
+-- what is seen of a recipe is seen of the chapter that has it
+pub seen-at :
+    (rs : Chapters) (k : ℕ) {plans earlier : Bool} {r : Recipe} {s : Seen}
+    → earlier ≡ isEarlier rs k
+    → r ≡ chapterAt rs k
+    → Sees plans earlier r s
+    → SeesAt plans rs k s
+seen-at rs k {plans} {r = r} {s} here is sees =
+    subst (λ (x : Recipe). Sees plans (isEarlier rs k) x s) is (subst (λ (b : Bool). Sees plans b r s) here sees)

@@ -5,7 +5,7 @@ use mathlib.Core.List.{List}
 use Prim.Native.Nat.{ℕ, suc, _+_, _<_, _≤_, max}
 use native.Mathlib.Decide.{ℕ-discrete, decLe, decLt}
 use native.Mathlib.Omega.{arith}
-use lib.ListN.{length, List·getD-eq-default}
+use lib.ListN.{length}
 use lib.Dec.{eqb, ltb}
 use borrow.Author.Tests.{eq-eqb, ne-eqb, lt-ltb, le-ltb}
 use Rattle.refusals.specs.declared.Refusal.{Refusal}
@@ -14,8 +14,6 @@ use Rattle.refusals.specs.declared.Verdict.the-variants.{Accepted, Refused}
 use Rattle.refusals.specs.Search.{greatestBelow}
 use Rattle.refusals.specs.Verdict.{firstRefusal}
 use Rattle.refusals.proofs.Verdicts.{refused-not}
-use Rattle.recipe.specs.declared.Recipe.{Recipe}
-use Rattle.recipe.specs.Reader.{noRecipe}
 use Rattle.recipe.specs.Rules.{checkRecipe}
 use Rattle.positions.specs.Radix.{sumBelow}
 use Rattle.positions.specs.Sizes.{partsOf}
@@ -32,11 +30,9 @@ use Rattle.chapters.proofs.AcceptedChapters.{chapter-accepted}
 use Rattle.chapters.proofs.ChapterSizes.{no-points}
 
 -- the first k chapters pass and are counted, the one that is wanted among them if it is one of them
-pub record SoFar (plans : Bool) (rs : Chapters) (wanted k : ℕ) (kept : Recipe) (counts : Counts) : Type 0 where
+pub record SoFar (plans : Bool) (rs : Chapters) (wanted k : ℕ) (counts : Counts) : Type 0 where
   pub few : k ≤ length rs
   pub accepted : firstRefusal (inTurn (λ i. chapterRules plans (isEarlier rs i) (chapterAt rs i)) k) ≡ Accepted
-  pub kept-is : wanted < k → kept ≡ chapterAt rs wanted
-  pub kept-none : k ≤ wanted → kept ≡ noRecipe
   pub own-is : wanted < k → counts .own ≡ pointsAt rs wanted
   pub own-none : k ≤ wanted → counts .own ≡ 0
   pub before-is : wanted ≤ k → counts .before ≡ sumBelow (pointsAt rs) wanted
@@ -51,14 +47,12 @@ noCounts = record { own = 0; before = 0; all = 0; most = 0; parts = 0 }
 
 module _ (plans : Bool) (rs : Chapters) (wanted : ℕ) where
   -- before the first chapter
-  pub counted-none : SoFar plans rs wanted 0 noRecipe noCounts
+  pub counted-none : SoFar plans rs wanted 0 noCounts
   unfolding inTurn firstRefusal sumBelow greatestBelow
   counted-none =
       record {
         few = omega arith;
         accepted = refl;
-        kept-is = λ (low : wanted < 0). absurd (omega arith);
-        kept-none = λ low. refl;
         own-is = λ (low : wanted < 0). absurd (omega arith);
         own-none = λ low. refl;
         before-is = λ (low : wanted ≤ 0).
@@ -70,7 +64,7 @@ module _ (plans : Bool) (rs : Chapters) (wanted : ℕ) where
         parts-is = refl;
       }
 
-  module _ (k : ℕ) (kept : Recipe) (counts : Counts) (S : SoFar plans rs wanted k kept counts) where
+  module _ (k : ℕ) (counts : Counts) (S : SoFar plans rs wanted k counts) where
     -- each chapter so far passes
     passes : (i : ℕ) → i < k → checkRecipe (chapterAt rs i) ≡ Accepted
     passes i low =
@@ -94,19 +88,14 @@ module _ (plans : Bool) (rs : Chapters) (wanted : ℕ) where
 
     -- one chapter more
     pub counted-next :
-        (kept′ : Recipe)
-        → k < length rs
+        k < length rs
         → firstRefusal (chapterRules plans (isEarlier rs k) (chapterAt rs k)) ≡ Accepted
-        → (k ≡ wanted → kept′ ≡ chapterAt rs k)
-        → ((k ≡ wanted → ⊥) → kept′ ≡ kept)
-        → SoFar plans rs wanted (suc k) kept′ (countedWith counts k wanted (pointsAt rs k) (partsOf (chapterAt rs k)))
+        → SoFar plans rs wanted (suc k) (countedWith counts k wanted (pointsAt rs k) (partsOf (chapterAt rs k)))
     unfolding countedWith sumBelow greatestBelow
-    counted-next kept′ low here this other =
+    counted-next low here =
         record {
           few = low;
           accepted = turn-accepts (λ i. chapterRules plans (isEarlier rs i) (chapterAt rs i)) k (S .accepted) here;
-          kept-is = λ past. kept-at past (ℕ-discrete k wanted);
-          kept-none = λ (least : suc k ≤ wanted). other (λ (e : k ≡ wanted). omega arith) ∙ S .kept-none (omega arith);
           own-is = λ past. own-at past (ℕ-discrete k wanted);
           own-none = λ (least : suc k ≤ wanted). rw (ne-eqb k wanted (λ (e : k ≡ wanted). omega arith)) (S .own-none (omega arith));
           before-is = λ past. before-at past (decLe wanted k);
@@ -116,10 +105,6 @@ module _ (plans : Bool) (rs : Chapters) (wanted : ℕ) where
           parts-is = ap (max (partsOf (chapterAt rs k))) (S .parts-is);
         }
       where
-        kept-at : wanted < suc k → Dec (k ≡ wanted) → kept′ ≡ chapterAt rs wanted
-        kept-at past (yes e) = this e ∙ ap (chapterAt rs) e
-        kept-at past (no ne) = other ne ∙ S .kept-is (omega arith)
-
         own-at : wanted < suc k → Dec (k ≡ wanted) → cond (eqb k wanted) (pointsAt rs k) (counts .own) ≡ pointsAt rs wanted
         own-at past (yes e) = rw (eq-eqb k wanted e) (ap (pointsAt rs) e)
         own-at past (no ne) = rw (ne-eqb k wanted ne) (S .own-is (omega arith))
@@ -139,19 +124,17 @@ module _ (plans : Bool) (rs : Chapters) (wanted : ℕ) where
         → Surveyed plans rs wanted
         (record {
           verdict = Accepted;
-          recipe = kept;
           own = counts .own;
           before = counts .before;
           all = counts .all;
           most = counts .most;
           parts = counts .parts;
         })
-    unfolding chaptersRules partsIn chapterAt
+    unfolding chaptersRules partsIn
     counted-all end =
         record {
           told = sym (S .accepted) ∙ ap (λ (n : ℕ). firstRefusal (inTurn rules n)) end;
           counted = λ accepted. record {
-            recipe-is = wanted-is (decLt wanted k);
             own-is = wanted-points (decLt wanted k);
             before-is = λ there. S .before-is (omega arith);
             all-is = S .all-is ∙ ap (sumBelow (pointsAt rs)) end;
@@ -162,10 +145,6 @@ module _ (plans : Bool) (rs : Chapters) (wanted : ℕ) where
       where
         rules : ℕ → List Verdict
         rules i = chapterRules plans (isEarlier rs i) (chapterAt rs i)
-
-        wanted-is : Dec (wanted < k) → kept ≡ chapterAt rs wanted
-        wanted-is (yes low) = S .kept-is low
-        wanted-is (no past) = S .kept-none (omega arith) ∙ sym (List·getD-eq-default rs noRecipe (omega arith))
 
         wanted-points : Dec (wanted < k) → counts .own ≡ pointsAt rs wanted
         wanted-points (yes low) = S .own-is low

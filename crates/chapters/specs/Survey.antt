@@ -8,16 +8,29 @@ use Rattle.refusals.specs.declared.Verdict.the-variants.{Accepted}
 use Rattle.refusals.specs.Search.{greatestBelow}
 use Rattle.refusals.specs.Verdict.{firstRefusal}
 use Rattle.cell.specs.declared.Cell.{Cell}
+use Rattle.recipe.specs.declared.Recipe.{Recipe}
 use Rattle.positions.specs.Radix.{sumBelow}
+use Rattle.positions.specs.Sizes.{pointsOf, partsOf}
 use Rattle.chapters.specs.declared.counts.Counts.{Counts}
+use Rattle.chapters.specs.declared.Seen.{Seen}
 use Rattle.chapters.specs.declared.Survey.{Survey}
-use Rattle.chapters.specs.Joined.{Chapters, chapterAt}
+use Rattle.chapters.specs.Joined.{Chapters, chapterAt, isEarlier}
 use Rattle.chapters.specs.Sizes.{pointsAt, partsIn}
-use Rattle.chapters.specs.Rules.{chaptersRules, recordRules}
+use Rattle.chapters.specs.Rules.{chapterRules, chaptersRules, recordRules}
 
--- the wanted chapter with its number of points, the points before it, the points of all, the most in one, and the parts
+-- what is seen of a chapter, of which it is said whether another follows: the verdict of its rules and, if these accept, its points and
+-- its parts
+pub record Sees (plans earlier : Bool) (r : Recipe) (s : Seen) : Type 0 where
+  pub told : s .verdict ≡ firstRefusal (chapterRules plans earlier r)
+  pub points-are : s .verdict ≡ Accepted → s .points ≡ pointsOf r
+  pub parts-are : s .verdict ≡ Accepted → s .parts ≡ partsOf r
+
+-- of chapter k
+abbrev pub SeesAt : Bool → Chapters → ℕ → Seen → Type 0
+SeesAt plans rs k s = Sees plans (isEarlier rs k) (chapterAt rs k) s
+
+-- the points of the wanted chapter, the points before it, the points of all, the most in one, and the parts
 pub record Counted (rs : Chapters) (wanted : ℕ) (s : Survey) : Type 0 where
-  pub recipe-is : s .recipe ≡ chapterAt rs wanted
   pub own-is : s .own ≡ pointsAt rs wanted
   pub before-is : wanted ≤ length rs → s .before ≡ sumBelow (pointsAt rs) wanted
   pub all-is : s .all ≡ sumBelow (pointsAt rs) (length rs)

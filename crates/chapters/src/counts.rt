@@ -3,7 +3,8 @@ ghost use mathlib.Core.Path.{_≡_};
 ghost use Prim.Native.Nat.{_≤_, max};
 ghost use lib.ListN.{length};
 ghost use Rattle.chapters.specs.Records.{chaptersFrom};
-ghost use Rattle.chapters.specs.Survey.{Surveyed, countedWith};
+ghost use Rattle.chapters.specs.Survey.{SeesAt, Surveyed, countedWith};
+use crate::Seen;
 use crate::Survey;
 use refusals::Verdict;
 
@@ -53,10 +54,8 @@ fn count(counts: Counts, k: usize, wanted: usize, points: usize, parts: usize) -
 pub fn refused(verdict: Verdict) -> Survey
     ensures { λ r. ⌜ r .verdict ≡ verdict ⌝ }
 {
-    let recipe = records::no_recipe();
     Survey {
         verdict,
-        recipe,
         own: 0,
         before: 0,
         all: 0,
@@ -65,13 +64,25 @@ pub fn refused(verdict: Verdict) -> Survey
     }
 }
 
+// Looks at chapter k. What is seen of the wanted one is known.
+fn look_at(recipes: &[u8], plans: bool, wanted: usize, seen: Seen, k: usize) -> Seen
+    requires { ⌜ SeesAt plans (chaptersFrom (now recipes)) wanted seen ⌝ }
+    ensures { λ r. ⌜ SeesAt plans (chaptersFrom (now (recipes .entry))) k r ⌝ }
+{
+    if k == wanted {
+        return seen;
+    }
+    let earlier = crate::is_earlier(recipes, k);
+    crate::look(crate::chapter(recipes, k), plans, earlier)
+}
+
 // The rules on each chapter in turn, with what is counted.
-pub fn survey(recipes: &[u8], number: usize, plans: bool, wanted: usize) -> Survey
+pub fn survey(recipes: &[u8], number: usize, plans: bool, wanted: usize, seen: Seen) -> Survey
     requires { ⌜ number ≡ length (chaptersFrom (now recipes)) ⌝ }
     requires { ⌜ number ≤ 8 ⌝ }
+    requires { ⌜ SeesAt plans (chaptersFrom (now recipes)) wanted seen ⌝ }
     ensures { λ r. ⌜ Surveyed plans (chaptersFrom (now (recipes .entry))) wanted r ⌝ }
 {
-    let mut kept = records::no_recipe();
     let mut counts = Counts {
         own: 0,
         before: 0,
@@ -81,23 +92,16 @@ pub fn survey(recipes: &[u8], number: usize, plans: bool, wanted: usize) -> Surv
     };
     let mut k = 0;
     while k < number {
-        let recipe = crate::chapter(recipes, k);
-        let checked = crate::rules::check_chapter(recipe, plans, k + 1 < number);
-        let Verdict::Accepted = checked else {
-            return refused(checked);
+        let here = look_at(recipes, plans, wanted, seen, k);
+        let verdict = here.verdict;
+        let Verdict::Accepted = verdict else {
+            return refused(verdict);
         };
-        let point = recipe.point;
-        let points = recipe::points::point_count(&point, recipe.count);
-        let parts = positions::parts::part_count(recipe);
-        counts = count(counts, k, wanted, points, parts);
-        if k == wanted {
-            kept = recipe;
-        }
+        counts = count(counts, k, wanted, here.points, here.parts);
         k += 1;
     }
     Survey {
         verdict: Verdict::Accepted,
-        recipe: kept,
         own: counts.own,
         before: counts.before,
         all: counts.all,

@@ -5,10 +5,10 @@ mod rules;
 ghost use mathlib.Core.Path.{_≡_};
 ghost use Prim.Native.Nat.{_-_, _<_};
 ghost use lib.ListN.{length};
-ghost use Rattle.chapters.specs.Joined.{chapterAt};
+ghost use Rattle.chapters.specs.Joined.{chapterAt, isEarlier};
 ghost use Rattle.chapters.specs.Rules.{checkSizes};
 ghost use Rattle.chapters.specs.Records.{chaptersFrom};
-ghost use Rattle.chapters.specs.Survey.{Tried};
+ghost use Rattle.chapters.specs.Survey.{Sees, SeesAt, Tried};
 use cell::Cell;
 use recipe::Recipe;
 use refusals::Verdict;
@@ -16,12 +16,17 @@ use refusals::Verdict;
 // The bytes of a recipe record.
 const RECORD: usize = 449;
 
-// What is found out while the rules on chapters are tried: the recipe of the chapter that is wanted, and the numbers of points of
-// this one, of those before it, of all, and of the one that has most; and the parts. Of a chapter that isn't there, a recipe of no
-// lines.
+// What is seen of one chapter: the verdict of its rules and, if these accept, its numbers of points and of parts.
+pub struct Seen {
+    pub verdict: Verdict,
+    pub points: usize,
+    pub parts: usize,
+}
+
+// What is found out while the rules on chapters are tried: the numbers of points of the chapter that is wanted, of those before it,
+// of all, and of the one that has most; and the parts. Of a chapter that isn't there, no points.
 pub struct Survey {
     pub verdict: Verdict,
-    pub recipe: Recipe,
     pub own: usize,
     pub before: usize,
     pub all: usize,
@@ -47,17 +52,54 @@ pub fn last(recipes: &[u8]) -> usize
     number - 1
 }
 
-// Chapter k.
+// Whether another chapter follows chapter k.
+pub fn is_earlier(recipes: &[u8], k: usize) -> bool
+    ensures { λ r. ⌜ r ≡ isEarlier (chaptersFrom (now (recipes .entry))) k ⌝ }
+{
+    let number = number(recipes);
+    if number <= k {
+        return false;
+    }
+    k + 1 < number
+}
+
+// Chapter k; one that isn't there has no lines.
 pub fn chapter(recipes: &[u8], k: usize) -> Recipe
-    requires { ⌜ k < length (chaptersFrom (now recipes)) ⌝ }
     ensures { λ r. ⌜ r ≡ chapterAt (chaptersFrom (now (recipes .entry))) k ⌝ }
 {
+    if number(recipes) <= k {
+        return records::no_recipe();
+    }
     let start = k * RECORD;
     records::get_recipe(&recipes[start..])
 }
 
-// Rule 24 on the number, the cell's rules, and those of each chapter, whatever is in them.
-pub fn check_records(cell: Cell, recipes: &[u8], plans: bool, wanted: usize) -> Survey
+// Looks at one chapter, of which it is told whether another follows.
+pub fn look(recipe: Recipe, plans: bool, earlier: bool) -> Seen
+    ensures { λ r. ⌜ Sees plans earlier recipe r ⌝ }
+{
+    let verdict = rules::check_chapter(recipe, plans, earlier);
+    let Verdict::Accepted = verdict else {
+        return Seen {
+            verdict,
+            points: 0,
+            parts: 0,
+        };
+    };
+    let point = recipe.point;
+    let points = recipe::points::point_count(&point, recipe.count);
+    let parts = positions::parts::part_count(recipe);
+    Seen {
+        verdict,
+        points,
+        parts,
+    }
+}
+
+// Rule 24 on the number, the cell's rules, and those of each chapter, whatever is in them. The wanted chapter was looked at by the
+// caller, who has its recipe at hand.
+pub fn check_records(cell: Cell, recipes: &[u8], plans: bool, wanted: usize, seen: Seen) -> Survey
+    requires { ⌜ SeesAt plans (chaptersFrom (now recipes)) wanted seen ⌝ }
     ensures { λ r. ⌜ Tried plans cell (chaptersFrom (now (recipes .entry))) wanted r ⌝ }
 {
     let chapters = number(recipes);
@@ -69,14 +111,15 @@ pub fn check_records(cell: Cell, recipes: &[u8], plans: bool, wanted: usize) -> 
     let Verdict::Accepted = checked else {
         return counts::refused(checked);
     };
-    counts::survey(recipes, chapters, plans, wanted)
+    counts::survey(recipes, chapters, plans, wanted, seen)
 }
 
 // Rules 24 and 3 to 13 on a cell and chapters handed in, whatever is in them.
 pub fn check(cell: Cell, recipes: &[u8]) -> Verdict
     ensures { λ r. ⌜ r ≡ checkSizes cell (chaptersFrom (now (recipes .entry))) ⌝ }
 {
-    let found = check_records(cell, recipes, false, 0);
+    let seen = look(chapter(recipes, 0), false, is_earlier(recipes, 0));
+    let found = check_records(cell, recipes, false, 0, seen);
     let verdict = found.verdict;
     let Verdict::Accepted = verdict else {
         return verdict;

@@ -13,7 +13,7 @@ use Rattle.refusals.specs.declared.Verdict.{Verdict}
 use Rattle.refusals.specs.declared.Verdict.the-variants.{Accepted, Refused}
 use Rattle.refusals.specs.Verdict.{firstRefusal, ifAccepted}
 use Rattle.refusals.proofs.Verdicts.{noLine-broken, noLine-kept}
-use Rattle.refusals.proofs.Rules.{left-accepts, refuses, accepts, decides, part-refuses, part-accepts}
+use Rattle.refusals.proofs.Rules.{refuses, accepts, decides, part-refuses, part-accepts}
 use Rattle.cell.specs.declared.Cell.{Cell}
 use Rattle.cell.specs.Rules.{checkCell}
 use Rattle.recipe.specs.declared.Recipe.{Recipe}
@@ -22,10 +22,7 @@ use Rattle.positions.specs.declared.Configuration.{Configuration}
 use Rattle.positions.specs.Sizes.{pointsOf}
 use Rattle.steps.specs.Lines.{kindOf}
 use Rattle.steps.specs.Effect.{opens, makes, leadsTo}
-use Rattle.chapters.specs.declared.Survey.{Survey}
 use Rattle.chapters.specs.Joined.{Chapters, Point, pointIn, chapterAt, isEarlier, landing}
-use Rattle.chapters.specs.Rules.{recordRules}
-use Rattle.chapters.specs.Survey.{Tried}
 use Rattle.chapters.proofs.Landing.{is-earlier, not-earlier, landing-last}
 use Rattle.run.specs.declared.Run.{Run}
 use Rattle.run.specs.declared.Move.{Move}
@@ -83,7 +80,7 @@ entry-in : {w : Verdict} (entry : ℕ) → w ≡ Accepted → moveAnswer w entry
 unfolding moveAnswer ifAccepted
 entry-in entry told = ap (λ (x : Verdict). moveAnswer x entry .entry) told
 
--- what the callees of a call on a run ask of the recipe that was kept, and of its chapter
+-- what the callees of a call on a run ask of the recipe, and of its chapter
 pub record Kept (c : Cell) (kept : Recipe) (run : Run) : Type 0 where
   pub cell-passes : checkCell c ≡ Accepted
   pub recipe-passes : checkRecipe kept ≡ Accepted
@@ -99,8 +96,8 @@ pub record Made (c : Cell) (kept : Recipe) (run : Run) (entry outcome : ℕ) (mo
   pub configuration-is : moved .configuration ≡ makes c kept (run .point) (run .configuration) entry outcome
   pub chapter-is : moved .chapter ≡ run .chapter
 
--- the calls that start from the entry at the run's position, and from the recipe that was kept when the chapters were tried
-module _ (c : Cell) (rs : Chapters) (table : List ℕ) (run : Run) (s : Survey) (tried : Tried false c rs (run .chapter) s)
+-- the calls that start from the entry at the run's position, and from the recipe of its chapter
+module _ (c : Cell) (rs : Chapters) (table : List ℕ) (run : Run) (recipe : Recipe) (recipe-is : recipe ≡ chapterAt rs (run .chapter))
     (found : Move) (is : found ≡ findEntry c rs table run) where
   abbrev earlier : List Verdict
   earlier = entryRules c rs table run
@@ -134,11 +131,7 @@ module _ (c : Cell) (rs : Chapters) (table : List ℕ) (run : Run) (s : Survey) 
     unfolding findEntry
     entry-is = ap (λ (m : Move). m .entry) is ∙ entry-in (entryAt c rs table run) passed
 
-    recipe-is : s .recipe ≡ own
-    unfolding entryRules
-    recipe-is = tried .counted (tried .told ∙ left-accepts (recordRules false c rs) _ passed) .recipe-is
-
-    pub kept : Kept c (s .recipe) run
+    pub kept : Kept c recipe run
     kept =
         let j = table-judged c rs run table passed in
         record {
@@ -152,29 +145,29 @@ module _ (c : Cell) (rs : Chapters) (table : List ℕ) (run : Run) (s : Survey) 
     goes-on : {x : Verdict} (rest : List Verdict) → x ≡ firstRefusal rest → x ≡ firstRefusal (earlier ++ rest)
     goes-on rest next = part-accepts earlier rest refl passed next
 
-    open-here : {way : Bool} → way ≡ opens c (s .recipe) (run .point) (run .configuration) (found .entry)
+    open-here : {way : Bool} → way ≡ opens c recipe (run .point) (run .configuration) (found .entry)
         → opens c own (run .point) (run .configuration) (entryAt c rs table run) ≡ way
     open-here e =
         sym
         (e ∙ ap₂ (λ (r : Recipe) (n : ℕ). opens c r (run .point) (run .configuration) n) recipe-is entry-is)
 
     -- rule 18, by whether the entry found is open
-    shut : (way : Bool) → way ≡ opens c (s .recipe) (run .point) (run .configuration) (found .entry) → way ≡ false
+    shut : (way : Bool) → way ≡ opens c recipe (run .point) (run .configuration) (found .entry) → way ≡ false
         → rule18 c rs table run ≡ Refused NotOpen 0
     unfolding rule18
     shut way e closed = noLine-broken NotOpen _ (ap not (open-here e ∙ closed))
 
-    lies-open : (way : Bool) → way ≡ opens c (s .recipe) (run .point) (run .configuration) (found .entry) → way ≡ true
+    lies-open : (way : Bool) → way ≡ opens c recipe (run .point) (run .configuration) (found .entry) → way ≡ true
         → rule18 c rs table run ≡ Accepted
     unfolding rule18
     lies-open way e opened = noLine-kept NotOpen _ (ap not (open-here e ∙ opened))
 
-    pub next-shut : (way : Bool) → way ≡ opens c (s .recipe) (run .point) (run .configuration) (found .entry) → way ≡ false
+    pub next-shut : (way : Bool) → way ≡ opens c recipe (run .point) (run .configuration) (found .entry) → way ≡ false
         → record { verdict = Refused NotOpen 0; entry = 0 } ≡ nextMove c rs table run
     unfolding nextMove moveRules moveAnswer
     next-shut way e closed = move-refused (entryAt c rs table run) (goes-on _ (decides (sym (shut way e closed)))) refl
 
-    pub next-open : (way : Bool) → way ≡ opens c (s .recipe) (run .point) (run .configuration) (found .entry) → way ≡ true
+    pub next-open : (way : Bool) → way ≡ opens c recipe (run .point) (run .configuration) (found .entry) → way ≡ true
         → found ≡ nextMove c rs table run
     unfolding nextMove moveRules moveAnswer
     next-open way e opened =
@@ -189,7 +182,7 @@ module _ (c : Cell) (rs : Chapters) (table : List ℕ) (run : Run) (s : Survey) 
           report-refused answer run (nextRun c rs table run outcome)
           (goes-on _ (refuses _ (sym (noLine-broken OutcomeRange _ (lt-ltb 1 outcome high))) refl)) e same
 
-      module _ (low : outcome ≤ 1) (way : Bool) (judged : way ≡ opens c (s .recipe) (run .point) (run .configuration) (found .entry)) where
+      module _ (low : outcome ≤ 1) (way : Bool) (judged : way ≡ opens c recipe (run .point) (run .configuration) (found .entry)) where
         fine : rule17 outcome ≡ Accepted
         unfolding rule17
         fine = noLine-kept OutcomeRange _ (le-ltb 1 outcome low)
@@ -201,7 +194,7 @@ module _ (c : Cell) (rs : Chapters) (table : List ℕ) (run : Run) (s : Survey) 
             report-refused answer run (nextRun c rs table run outcome)
             (goes-on _ (accepts _ refl fine (refuses _ (sym (shut way judged closed)) refl))) e same
 
-        module _ (opened : way ≡ true) (kind : ℕ) (kind-is : kind ≡ kindOf (s .recipe) (run .point)) where
+        module _ (opened : way ≡ true) (kind : ℕ) (kind-is : kind ≡ kindOf recipe (run .point)) where
           kind-here : kind ≡ kindOf own (run .point)
           kind-here = kind-is ∙ ap (λ (r : Recipe). kindOf r (run .point)) recipe-is
 
@@ -218,12 +211,12 @@ module _ (c : Cell) (rs : Chapters) (table : List ℕ) (run : Run) (s : Survey) 
               same
 
   -- the move is made
-  module _ (told : found .verdict ≡ Accepted) (outcome : ℕ) (moved : Run) (M : Made c (s .recipe) run (found .entry) outcome moved) where
+  module _ (told : found .verdict ≡ Accepted) (outcome : ℕ) (moved : Run) (M : Made c recipe run (found .entry) outcome moved) where
     report-made : (next : Run) → next ≡ nextRun c rs table run outcome
         → record { verdict = found .verdict; run = next } ≡ reportOf c rs table run outcome
     unfolding reportOf reportRules reportAnswer rule19
     report-made next e =
-        let some : kindOf own (run .point) ≡ 0 → ⊥ = λ z. M .some (ap (λ (r : Recipe). kindOf r (run .point)) (recipe-is told) ∙ z) in
+        let some : kindOf own (run .point) ≡ 0 → ⊥ = λ z. M .some (ap (λ (r : Recipe). kindOf r (run .point)) recipe-is ∙ z) in
         report-accepted run (nextRun c rs table run outcome) next
         (told ∙ goes-on told _
         (accepts _ refl (fine told outcome (M .low) true (sym (M .opened)))
@@ -242,11 +235,11 @@ module _ (c : Cell) (rs : Chapters) (table : List ℕ) (run : Run) (s : Survey) 
         λ i. record {
           point =
               (M .point-is
-              ∙ ap₂ (λ (r : Recipe) (n : ℕ). leadsTo r (run .point) n outcome) (recipe-is told) (entry-is told))
+              ∙ ap₂ (λ (r : Recipe) (n : ℕ). leadsTo r (run .point) n outcome) recipe-is (entry-is told))
               i;
           configuration =
               (M .configuration-is
-              ∙ ap₂ (λ (r : Recipe) (n : ℕ). makes c r (run .point) (run .configuration) n outcome) (recipe-is told) (entry-is told))
+              ∙ ap₂ (λ (r : Recipe) (n : ℕ). makes c r (run .point) (run .configuration) n outcome) recipe-is (entry-is told))
               i;
           chapter = M .chapter-is i;
         }
@@ -259,11 +252,11 @@ module _ (c : Cell) (rs : Chapters) (table : List ℕ) (run : Run) (s : Survey) 
         (moved-is ∙ ap (λ (p : Point). runAt p made) (sym (landing-last rs lead (not-earlier rs (run .chapter) (omega arith)))))
 
     -- in an earlier one it lands
-    pub report-lands : (after : Run) → run .chapter + 1 < length rs → Landed (s .recipe) moved after
+    pub report-lands : (after : Run) → run .chapter + 1 < length rs → Landed recipe moved after
         → record { verdict = found .verdict; run = after } ≡ reportOf c rs table run outcome
     unfolding nextRun nextPoint
     report-lands after next landed =
-        let own-is : s .recipe ≡ chapterAt rs (moved .chapter) = recipe-is told ∙ ap (chapterAt rs) (sym (M .chapter-is)) in
+        let own-is : recipe ≡ chapterAt rs (moved .chapter) = recipe-is ∙ ap (chapterAt rs) (sym (M .chapter-is)) in
         let earlier : isEarlier rs (moved .chapter) ≡ true = is-earlier rs (moved .chapter) (omega (arith, M .chapter-is)) in
         report-made after
         (landed .lands rs own-is earlier ∙ ap (λ (m : Run). runAt (landing rs (pointOf m)) (m .configuration)) moved-is)

@@ -33,8 +33,7 @@ use Rattle.chapters.proofs.ChapterSizes.{few-entries}
 use Rattle.chapters.proofs.AcceptedChapters.{records-accepted}
 use Rattle.run.specs.declared.Run.{Run}
 use Rattle.run.specs.Calls.{pointOf, runRules, tableRules}
-use Rattle.run.specs.declared.entry.Tally.{Tally}
-use Rattle.run.specs.Inner.{runRulesBy, tableRulesBy, tallyOf, Tallied}
+use Rattle.run.specs.Inner.{runRulesBy, tableRulesBy}
 use Rattle.run.proofs.AcceptedRun.{InPlace, in-place, table-long}
 
 -- a chapter that isn't there has no points, so that no point of it is in range
@@ -51,11 +50,6 @@ position-there c rs p a = decide (decLt (p .chapter) (length rs))
         let high : length rs ≤ p .chapter = omega arith in
         let none : 0 ≤ p .point = omega arith in
         rw (le-ltb (p .chapter) (length rs) high, no-points rs (p .chapter) high, le-ltb (p .point) 0 none)
-
--- a survey tells of the same chapters without its recipe
-pub tallied : (c : Cell) (rs : Chapters) (run : Run) (s : Survey) (t : Tally) → t ≡ tallyOf s → Tried false c rs (run .chapter) s → Tallied c rs run t
-unfolding tallyOf
-tallied c rs run s t is tried = subst (Tallied c rs run) (sym is) (record { recipe = s .recipe; tried = tried })
 
 -- where the rules on the chapters accept, sizes may be measured by what was counted
 module _ (c : Cell) (rs : Chapters) (wanted : ℕ) (s : Survey) (tried : Tried false c rs wanted s) (accepted : s .verdict ≡ Accepted) where

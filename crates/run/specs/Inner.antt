@@ -1,6 +1,6 @@
 -- What the inner functions answer. Only their contracts cite it; what a call returns is defined without it. Assumes nothing.
 use mathlib.Core.Path.{_≡_}
-use mathlib.Core.Bool.{true, false}
+use mathlib.Core.Bool.{true}
 use mathlib.Core.List.{List, [], _∷_}
 use Prim.Native.Nat.{ℕ}
 use lib.Dec.{ltb}
@@ -11,12 +11,9 @@ use Rattle.cell.specs.declared.Cell.{Cell}
 use Rattle.recipe.specs.declared.Recipe.{Recipe}
 use Rattle.positions.specs.declared.Sizes.{Sizes}
 use Rattle.positions.specs.Rules.{rule13, rule16}
-use Rattle.chapters.specs.declared.Survey.{Survey}
 use Rattle.chapters.specs.Joined.{Chapters, chapterAt, isEarlier, landing}
-use Rattle.chapters.specs.Survey.{Tried}
 use Rattle.run.specs.declared.Run.{Run}
 use Rattle.run.specs.declared.Move.{Move}
-use Rattle.run.specs.declared.entry.Tally.{Tally}
 use Rattle.run.specs.Calls.{pointOf, runAt, entryAt, entryRules}
 
 -- rules 13 and 16, by the sizes of the chapter with most points and by those of the run's
@@ -27,28 +24,6 @@ runRulesBy most own run = rule13 most ∷ rule16 own (run .point) (run .configur
 unfoldable pub tableRulesBy : Sizes → Sizes → ℕ → ℕ → Run → List Verdict
 tableRulesBy most own needed entries run =
     rule13 most ∷ noLine TooShort (ltb entries needed) ∷ rule16 own (run .point) (run .configuration) ∷ []
-
--- what a survey found out but for the recipe, and the survey with a recipe
-unfoldable pub tallyOf : Survey → Tally
-tallyOf s =
-    record { verdict = s .verdict; own = s .own; before = s .before; all = s .all; most = s .most; parts = s .parts }
-
-abbrev pub surveyOf : Tally → Recipe → Survey
-surveyOf t recipe =
-    record {
-      verdict = t .verdict;
-      recipe = recipe;
-      own = t .own;
-      before = t .before;
-      all = t .all;
-      most = t .most;
-      parts = t .parts;
-    }
-
--- what was found out about these chapters, of which the run's was wanted
-pub record Tallied (c : Cell) (rs : Chapters) (run : Run) (t : Tally) : Type 0 where
-  pub recipe : Recipe
-  pub tried : Tried false c rs (run .chapter) (surveyOf t recipe)
 
 -- an entry with the verdict on it
 unfoldable pub moveAnswer : Verdict → ℕ → Move

@@ -67,19 +67,16 @@ impl Run {
     pub fn next_move(self, cell: Cell, recipes: &[u8], table: &[u32]) -> Move
         ensures { λ r. ⌜ r ≡ nextMove cell (chaptersFrom (now (recipes .entry))) (now (table .entry)) self ⌝ }
     {
-        let tried = chapters::check_records(cell, recipes, false, self.chapter as usize);
-        let found = entry::find(self, cell, entry::without_recipe(tried), table);
+        let k = self.chapter as usize;
+        let recipe = chapters::chapter(recipes, k);
+        let seen = chapters::look(recipe, false, chapters::is_earlier(recipes, k));
+        let tried = chapters::check_records(cell, recipes, false, k, seen);
+        let found = entry::find(self, cell, tried, table);
         let verdict = found.verdict;
         let Verdict::Accepted = verdict else {
             return found;
         };
-        if !moves::is_open(
-            cell,
-            tried.recipe,
-            self.point,
-            self.configuration,
-            found.entry,
-        ) {
+        if !moves::is_open(cell, recipe, self.point, self.configuration, found.entry) {
             return Move {
                 verdict: Verdict::Refused(Refusal::NotOpen, 0),
                 entry: 0,
@@ -92,8 +89,11 @@ impl Run {
     pub fn report(mut self, cell: Cell, recipes: &[u8], table: &[u32], outcome: u8) -> Report
         ensures { λ r. ⌜ r ≡ reportOf cell (chaptersFrom (now (recipes .entry))) (now (table .entry)) self outcome ⌝ }
     {
-        let tried = chapters::check_records(cell, recipes, false, self.chapter as usize);
-        let found = entry::find(self, cell, entry::without_recipe(tried), table);
+        let k = self.chapter as usize;
+        let recipe = chapters::chapter(recipes, k);
+        let seen = chapters::look(recipe, false, chapters::is_earlier(recipes, k));
+        let tried = chapters::check_records(cell, recipes, false, k, seen);
+        let found = entry::find(self, cell, tried, table);
         let verdict = found.verdict;
         let Verdict::Accepted = verdict else {
             return Report { verdict, run: self };
@@ -102,26 +102,26 @@ impl Run {
         if 1 < outcome {
             return refused(self, Refusal::OutcomeRange);
         }
-        if !moves::is_open(cell, tried.recipe, self.point, self.configuration, entry) {
+        if !moves::is_open(cell, recipe, self.point, self.configuration, entry) {
             return refused(self, Refusal::NotOpen);
         }
-        if steps::point_kind(tried.recipe, self.point) == 0 {
+        if steps::point_kind(recipe, self.point) == 0 {
             return refused(self, Refusal::AtEnd);
         }
         let configuration = moves::make(
             cell,
-            tried.recipe,
+            recipe,
             self.point,
             self.configuration,
             entry,
             outcome,
         );
-        self.point = steps::lead(tried.recipe, self.point, entry, outcome);
+        self.point = steps::lead(recipe, self.point, entry, outcome);
         self.configuration = configuration;
         if chapters::number(recipes) <= self.chapter as usize + 1 {
             return Report { verdict, run: self };
         }
-        let run = joint::land(self, tried.recipe);
+        let run = joint::land(self, recipe);
         Report { verdict, run }
     }
 
@@ -129,7 +129,10 @@ impl Run {
     pub fn place(self, cell: Cell, recipes: &[u8], part: u8) -> Place
         ensures { λ r. ⌜ r ≡ partPlace cell (chaptersFrom (now (recipes .entry))) self part ⌝ }
     {
-        let tried = chapters::check_records(cell, recipes, false, self.chapter as usize);
+        let k = self.chapter as usize;
+        let recipe = chapters::chapter(recipes, k);
+        let seen = chapters::look(recipe, false, chapters::is_earlier(recipes, k));
+        let tried = chapters::check_records(cell, recipes, false, k, seen);
         let verdict = tried.verdict;
         let Verdict::Accepted = verdict else {
             return Place {

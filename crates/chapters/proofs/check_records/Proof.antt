@@ -75,7 +75,7 @@ survey-requires c κs =
     let at-number = c .before .before .before .before .before in
     let rs = chaptersFrom (at-number .before .before .before .args .recipes .now) in
     let few = number-kept (length rs) (sym (numbered at-number) ∙ c .before .before .before .enum-told .given .1) in
-    (at-number .before .number .ensures, rw (at-number .before .number .ensures) (few .1))
+    (at-number .before .number .ensures, (rw (at-number .before .number .ensures) (few .1), at-number .before .before .before .pre))
 
 returns-3 : tie.Need-returns-3
 unfolding recordRules checkCell

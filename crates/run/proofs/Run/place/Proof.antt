@@ -10,6 +10,7 @@ use Rattle.chapters.specs.Joined.{Chapters}
 use Rattle.chapters.specs.Sizes.{sizesIn}
 use Rattle.chapters.specs.Rules.{recordRules}
 use Rattle.chapters.specs.Records.{chaptersFrom}
+use Rattle.chapters.proofs.AcceptedChapters.{seen-at}
 use Rattle.run.specs.Calls.{runRules, placeRules, partPlace}
 use Rattle.run.proofs.CountedRules.{cell-passed, small, Measured, run-rules}
 use Rattle.run.proofs.Answers.{placeAnswer, place-refused, place-accepted, place-past, place-there}
@@ -17,11 +18,20 @@ use borrow.Author.Needs.{needs}
 use Rattle.run.proofs.Run.place.Statement.{statement}
 use Rattle.run.proofs.Run.place.Tie as tie
 
-cast-check-records : tie.Need-cast-check-records
-cast-check-records c = search needs
+cast-k : tie.Need-cast-k
+cast-k c = search needs
+
+chapter-requires : tie.Need-chapter-requires
+chapter-requires c κs = search needs
+
+is-earlier-requires : tie.Need-is-earlier-requires
+is-earlier-requires c κs = search needs
+
+look-requires : tie.Need-look-requires
+look-requires c κs = search needs
 
 check-records-requires : tie.Need-check-records-requires
-check-records-requires c κs = search needs
+check-records-requires c κs = seen-at _ _ (c .before .is-earlier .ensures) (c .before .before .chapter .ensures) (c .look .ensures)
 
 enum-told : tie.Need-enum-told
 enum-told c = search needs
@@ -32,7 +42,7 @@ enum-told-2 c = search needs
 returns : tie.Need-returns
 unfolding partPlace placeAnswer placeRules
 returns c =
-    let s = c .before .before .before .before .before .args in
+    let s = c .before .before .before .before .before .before .before .before .args in
     let rs = chaptersFrom (s .recipes .now) in
     place-refused _
     (part-refuses (recordRules false (s .cell) rs) (runRules (sizesIn (s .cell) rs) (length rs) (s .self))
@@ -52,7 +62,7 @@ with-points-requires c κs =
 
 -- what is known once both sizes are measured
 abbrev start : tie.After-with-points → tie.Start
-start c = c .before .before .before .before .before .before .before
+start c = c .before .before .before .before .before .before .before .before .before .before
 
 abbrev chapters : tie.After-with-points → Chapters
 chapters c = chaptersFrom (start c .args .recipes .now)
@@ -101,8 +111,8 @@ returns-3 c =
     place-accepted _ (told at-run) (c .before .before .enum-told3 .given .1)
     (place-past _ _ (M .tried .counted (M .accepted) .parts-is) (c .if1 .taken))
 
-array-read-t16 : tie.Need-array-read-t16
-array-read-t16 c =
+array-read-t19 : tie.Need-array-read-t19
+array-read-t19 c =
     let M = measured (c .before .before .before .before .before .before .before) in
     omega (arith, small _ _ _ _ (M .tried) (M .accepted) .parts, c .before .before .if1 .left)
 
@@ -118,7 +128,10 @@ pub place-spec : {M : Type 1} → statement M
 place-spec =
     tie.close
     (tie.spec
-    cast-check-records
+    cast-k
+    chapter-requires
+    is-earlier-requires
+    look-requires
     check-records-requires
     enum-told
     enum-told-2
@@ -130,5 +143,5 @@ place-spec =
     enum-told-4
     returns-2
     returns-3
-    array-read-t16
+    array-read-t19
     returns-4)

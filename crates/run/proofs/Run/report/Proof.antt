@@ -2,40 +2,42 @@ use mathlib.Core.Path.{_≡_, refl, sym, _∙_}
 use native.Mathlib.Omega.{arith}
 use borrow.Author.Tests.{not-true, not-false}
 use Rattle.chapters.specs.Records.{chaptersFrom}
+use Rattle.chapters.proofs.AcceptedChapters.{seen-at}
 use Rattle.run.specs.declared.Run.{Run}
-use Rattle.run.specs.Inner.{Tallied, findEntry}
+use Rattle.run.specs.Inner.{findEntry}
 use Rattle.run.proofs.AcceptedRun.{lead-below}
-use Rattle.run.proofs.CountedRules.{tallied}
 use Rattle.run.proofs.Answers.{Kept, kept, Made, report-early, report-17, report-18, report-19, report-stays, report-lands}
 use borrow.Author.Needs.{needs}
 use Rattle.run.proofs.Run.report.Statement.{statement}
 use Rattle.run.proofs.Run.report.Tie as tie
 
-cast-check-records : tie.Need-cast-check-records
-cast-check-records c = search needs
+cast-k : tie.Need-cast-k
+cast-k c = search needs
+
+chapter-requires : tie.Need-chapter-requires
+chapter-requires c κs = search needs
+
+is-earlier-requires : tie.Need-is-earlier-requires
+is-earlier-requires c κs = search needs
+
+look-requires : tie.Need-look-requires
+look-requires c κs = search needs
 
 check-records-requires : tie.Need-check-records-requires
-check-records-requires c κs = search needs
+check-records-requires c κs = seen-at _ _ (c .before .is-earlier .ensures) (c .before .before .chapter .ensures) (c .look .ensures)
 
-without-recipe-requires : tie.Need-without-recipe-requires
-without-recipe-requires c κs = search needs
-
-abbrev start : tie.After-without-recipe → tie.Start
-start c = c .before .before .before .before .before
-
-tells : (c : tie.After-without-recipe)
-    → Tallied (start c .args .cell) (chaptersFrom (start c .args .recipes .now)) (start c .args .self) (c .without-recipe .result)
-tells c = tallied _ _ _ _ _ (c .without-recipe .ensures) (c .before .check-records .ensures)
+abbrev start : tie.After-check-records → tie.Start
+start c = c .before .before .before .before .before .before .before
 
 find-requires : tie.Need-find-requires
-find-requires c κs = (_, tells c)
+find-requires c κs = (_, c .check-records .ensures)
 
 -- what was found
 found : (c : tie.After-find)
     → c .find .result
     ≡ findEntry (start (c .before) .args .cell) (chaptersFrom (start (c .before) .args .recipes .now)) (start (c .before) .args .table .now)
     (start (c .before) .args .self)
-found c = c .find .ensures _ (tells (c .before))
+found c = c .find .ensures _ (c .before .check-records .ensures)
 
 enum-told : tie.Need-enum-told
 enum-told c = search needs
@@ -46,7 +48,7 @@ enum-told-2 c = search needs
 returns : tie.Need-returns
 returns c =
     let at-find = c .before .before in
-    report-early _ _ _ _ _ (at-find .before .before .check-records .ensures) _ (found at-find) (c .enum-told2 .given .1) _
+    report-early _ _ _ _ _ (at-find .before .before .before .before .chapter .ensures) _ (found at-find) (c .enum-told2 .given .1) _
 
 refused-requires : tie.Need-refused-requires
 refused-requires c κs = search needs
@@ -55,16 +57,16 @@ returns-2 : tie.Need-returns-2
 returns-2 c =
     let at-told = c .before .before in
     let at-find = at-told .before .before in
-    report-17 _ _ _ _ _ (at-find .before .before .check-records .ensures) _ (found at-find) (at-told .enum-told .given .1) _ _
+    report-17 _ _ _ _ _ (at-find .before .before .before .before .chapter .ensures) _ (found at-find) (at-told .enum-told .given .1) _ _
     (c .before .if1 .taken) (c .refused .ensures .0) (c .refused .ensures .1)
 
--- what is known of the recipe that was kept
+-- what is known of the recipe
 keeps : (c : tie.After-enum-told)
-    → Kept (start (c .before .before .before) .args .cell) (c .before .before .before .before .check-records .result .recipe)
+    → Kept (start (c .before .before .before) .args .cell) (c .before .before .before .before .before .before .chapter .result)
     (start (c .before .before .before) .args .self)
 keeps c =
     let at-find = c .before .before in
-    kept _ _ _ _ _ (at-find .before .before .check-records .ensures) _ (found at-find) (c .enum-told .given .1)
+    kept _ _ _ _ _ (at-find .before .before .before .before .chapter .ensures) _ (found at-find) (c .enum-told .given .1)
 
 is-open-requires : tie.Need-is-open-requires
 is-open-requires c κs = let K = keeps (c .before) in (K .cell-passes, (K .recipe-passes, K .point-below))
@@ -76,7 +78,7 @@ returns-3 : tie.Need-returns-3
 returns-3 c =
     let at-told = c .before .before .before .before in
     let at-find = at-told .before .before in
-    report-18 _ _ _ _ _ (at-find .before .before .check-records .ensures) _ (found at-find) (at-told .enum-told .given .1) _
+    report-18 _ _ _ _ _ (at-find .before .before .before .before .chapter .ensures) _ (found at-find) (at-told .enum-told .given .1) _
     (c .before .before .before .if1 .left) _ (c .before .before .is-open .ensures) _ (not-true _ (c .before .if2 .taken))
     (c .refused2 .ensures .0) (c .refused2 .ensures .1)
 
@@ -91,7 +93,7 @@ returns-4 c =
     let at-open = c .before .before .before .before in
     let at-told = at-open .before .before in
     let at-find = at-told .before .before in
-    report-19 _ _ _ _ _ (at-find .before .before .check-records .ensures) _ (found at-find) (at-told .enum-told .given .1) _
+    report-19 _ _ _ _ _ (at-find .before .before .before .before .chapter .ensures) _ (found at-find) (at-told .enum-told .given .1) _
     (at-open .before .if1 .left) _ (at-open .is-open .ensures) (not-false _ (c .before .before .before .if2 .left)) _
     (c .before .before .point-kind .ensures) _ (c .before .if3 .taken) (c .refused3 .ensures .0) (c .refused3 .ensures .1)
 
@@ -124,7 +126,7 @@ abbrev moved : tie.After-lead → Run
 moved c = record { point = c .lead .result; configuration = c .before .make .result; chapter = begin c .args .self .chapter }
 
 made : (c : tie.After-lead)
-    → Made (begin c .args .cell) (at-told-of c .before .before .before .before .check-records .result .recipe) (begin c .args .self)
+    → Made (begin c .args .cell) (at-told-of c .before .before .before .before .before .before .chapter .result) (begin c .args .self)
     (at-told-of c .before .before .find .result .entry) (begin c .args .outcome) (moved c)
 made c =
     let at-kind = c .before .before .before in
@@ -143,7 +145,7 @@ returns-5 c =
     let at-lead = c .before .before .before in
     let at-told = at-told-of at-lead in
     let at-find = at-told .before .before in
-    report-stays _ _ _ _ _ (at-find .before .before .check-records .ensures) _ (found at-find) (at-told .enum-told .given .1) _
+    report-stays _ _ _ _ _ (at-find .before .before .before .before .chapter .ensures) _ (found at-find) (at-told .enum-told .given .1) _
     (moved at-lead) (made at-lead) (omega (arith, c .before .before .number .ensures, c .if4 .taken))
 
 land-requires : tie.Need-land-requires
@@ -158,16 +160,18 @@ returns-6 c =
     let at-lead = c .before .before .before .before in
     let at-told = at-told-of at-lead in
     let at-find = at-told .before .before in
-    report-lands _ _ _ _ _ (at-find .before .before .check-records .ensures) _ (found at-find) (at-told .enum-told .given .1) _
+    report-lands _ _ _ _ _ (at-find .before .before .before .before .chapter .ensures) _ (found at-find) (at-told .enum-told .given .1) _
     (moved at-lead) (made at-lead) _ (omega (arith, c .before .before .before .number .ensures, c .before .if4 .left)) (c .land .ensures)
 
 pub report-spec : {M : Type 1} → statement M
 report-spec =
     tie.close
     (tie.spec
-    cast-check-records
+    cast-k
+    chapter-requires
+    is-earlier-requires
+    look-requires
     check-records-requires
-    without-recipe-requires
     find-requires
     enum-told
     enum-told-2

@@ -10,8 +10,9 @@ use Rattle.refusals.proofs.Rules.{part-refuses, part-accepts}
 use Rattle.chapters.specs.Joined.{Chapters}
 use Rattle.chapters.specs.Sizes.{sizesIn, entryIn}
 use Rattle.chapters.specs.Rules.{recordRules}
+use Rattle.chapters.specs.Survey.{Tried}
 use Rattle.run.specs.Calls.{tableRules, entryRules}
-use Rattle.run.specs.Inner.{surveyOf, Tallied, findEntry}
+use Rattle.run.specs.Inner.{findEntry}
 use Rattle.run.proofs.CountedRules.{cell-passed, small, Measured, table-rules, wide-small, needed-small, own-position, entry-place}
 use Rattle.run.proofs.CountedRules.{entry-inside, before-small, place-small, bytes-small}
 use Rattle.run.proofs.Answers.{move-refused, move-accepted}
@@ -31,30 +32,30 @@ returns c rs T =
     let s = c .before .before .before .args in
     move-refused _
     (part-refuses (recordRules false (s .cell) rs) (tableRules (sizesIn (s .cell) rs) (length rs) (length (s .table .now)) (s .run))
-    (T .tried .told) (c .enum-told2 .given .1))
+    (T .told) (c .enum-told2 .given .1))
     (c .enum-told2 .given .1)
 
 measure-for-requires : tie.Need-measure-for-requires
 measure-for-requires c κs =
-    let tried = c .before .before .before .pre .1 .tried in
+    let tried = c .before .before .before .pre .1 in
     let few = small _ _ _ _ tried (c .enum-told .given .1) in
     (cell-passed _ _ _ _ tried (c .enum-told .given .1), (few .most, few .parts))
 
 with-points-requires : tie.Need-with-points-requires
 with-points-requires c κs =
-    (c .measure-for .ensures .1, small _ _ _ _ (c .before .before .before .before .pre .1 .tried) (c .before .enum-told .given .1) .own)
+    (c .measure-for .ensures .1, small _ _ _ _ (c .before .before .before .before .pre .1) (c .before .enum-told .given .1) .own)
 
 -- what is known once both sizes are measured
 abbrev start : tie.After-with-points → tie.Start
 start c = c .before .before .before .before .before
 
-module _ (c : tie.After-with-points) (rs : Chapters) (T : Tallied (start c .args .cell) rs (start c .args .run) (start c .args .tally)) where
+module _ (c : tie.After-with-points) (rs : Chapters) (T : Tried false (start c .args .cell) rs (start c .args .run .chapter) (start c .args .survey)) where
   measured :
-      Measured (start c .args .cell) rs (start c .args .run) (surveyOf (start c .args .tally) (T .recipe))
+      Measured (start c .args .cell) rs (start c .args .run) (start c .args .survey)
       (c .before .measure-for .result) (c .with-points .result)
   measured =
       record {
-        tried = T .tried;
+        tried = T;
         accepted = c .before .before .enum-told .given .1;
         most-is = c .before .measure-for .ensures .0;
         most-fits = c .before .measure-for .ensures .1;
@@ -82,8 +83,8 @@ abbrev rules : tie.After-with-points → Chapters → List Verdict
 rules c rs = tableRules (sizesIn (start c .args .cell) rs) (length rs) (length (start c .args .table .now)) (start c .args .run)
 
 module _ (c : tie.After-check-table) (rs : Chapters)
-    (T : Tallied (start (c .before .before .before) .args .cell) rs (start (c .before .before .before) .args .run)
-    (start (c .before .before .before) .args .tally)) where
+    (T : Tried false (start (c .before .before .before) .args .cell) rs (start (c .before .before .before) .args .run .chapter)
+    (start (c .before .before .before) .args .survey)) where
   judged : c .check-table .result ≡ firstRefusal (rules (c .before .before .before) rs)
   judged = c .check-table .ensures ∙ table-rules _ _ _ _ _ _ (measured (c .before .before .before) rs T) _
 
@@ -99,8 +100,8 @@ returns-2 c rs T = move-refused _ (told (c .before .before) rs T) (c .enum-told4
 
 -- where they accept, the run's position lies in the table
 module _ (c : tie.After-enum-told3) (rs : Chapters)
-    (T : Tallied (start (c .before .before .before .before .before) .args .cell) rs (start (c .before .before .before .before .before) .args .run)
-    (start (c .before .before .before .before .before) .args .tally)) where
+    (T : Tried false (start (c .before .before .before .before .before) .args .cell) rs
+    (start (c .before .before .before .before .before) .args .run .chapter) (start (c .before .before .before .before .before) .args .survey)) where
   passed : firstRefusal (rules (c .before .before .before .before .before) rs) ≡ Accepted
   passed = sym (judged (c .before .before) rs T) ∙ c .enum-told3 .given .1
 
