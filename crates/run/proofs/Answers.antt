@@ -2,9 +2,8 @@
 use mathlib.Core.Path.{_≡_, refl, sym, ap, ap₂, subst, _∙_}
 use mathlib.Core.Bool.{Bool, true, false, cond, not}
 use mathlib.Core.List.{List, _++_}
-use Prim.Native.Nat.{ℕ, _+_, _<_, _≤_}
+use Prim.Native.Nat.{ℕ, _<_, _≤_}
 use native.Mathlib.Omega.{arith}
-use lib.ListN.{length}
 use lib.Dec.{ltb}
 use borrow.Author.Tests.{lt-ltb, le-ltb, eq-eqb, ne-eqb}
 use Rattle.refusals.specs.declared.Refusal.{Refusal}
@@ -23,7 +22,7 @@ use Rattle.positions.specs.Sizes.{pointsOf}
 use Rattle.steps.specs.Lines.{kindOf}
 use Rattle.steps.specs.Effect.{opens, makes, leadsTo}
 use Rattle.chapters.specs.Joined.{Chapters, Point, pointIn, chapterAt, isEarlier, landing}
-use Rattle.chapters.proofs.Landing.{is-earlier, not-earlier, landing-last}
+use Rattle.chapters.proofs.Landing.{landing-last}
 use Rattle.run.specs.declared.Run.{Run}
 use Rattle.run.specs.declared.Move.{Move}
 use Rattle.run.specs.declared.Report.{Report}
@@ -245,19 +244,19 @@ module _ (c : Cell) (rs : Chapters) (table : List ℕ) (run : Run) (recipe : Rec
         }
 
     -- in the last chapter the run stays where the move leads
-    pub report-stays : length rs ≤ run .chapter + 1 → record { verdict = found .verdict; run = moved } ≡ reportOf c rs table run outcome
+    pub report-stays : isEarlier rs (run .chapter) ≡ false → record { verdict = found .verdict; run = moved } ≡ reportOf c rs table run outcome
     unfolding nextRun nextPoint
     report-stays last =
         report-made moved
-        (moved-is ∙ ap (λ (p : Point). runAt p made) (sym (landing-last rs lead (not-earlier rs (run .chapter) (omega arith)))))
+        (moved-is ∙ ap (λ (p : Point). runAt p made) (sym (landing-last rs lead last)))
 
     -- in an earlier one it lands
-    pub report-lands : (after : Run) → run .chapter + 1 < length rs → Landed recipe moved after
+    pub report-lands : (after : Run) → isEarlier rs (run .chapter) ≡ true → Landed recipe moved after
         → record { verdict = found .verdict; run = after } ≡ reportOf c rs table run outcome
     unfolding nextRun nextPoint
     report-lands after next landed =
         let own-is : recipe ≡ chapterAt rs (moved .chapter) = recipe-is ∙ ap (chapterAt rs) (sym (M .chapter-is)) in
-        let earlier : isEarlier rs (moved .chapter) ≡ true = is-earlier rs (moved .chapter) (omega (arith, M .chapter-is)) in
+        let earlier : isEarlier rs (moved .chapter) ≡ true = ap (isEarlier rs) (M .chapter-is) ∙ next in
         report-made after
         (landed .lands rs own-is earlier ∙ ap (λ (m : Run). runAt (landing rs (pointOf m)) (m .configuration)) moved-is)
 

@@ -91,7 +91,8 @@ impl Run {
     {
         let k = self.chapter as usize;
         let recipe = chapters::chapter(recipes, k);
-        let seen = chapters::look(recipe, false, chapters::is_earlier(recipes, k));
+        let earlier = chapters::is_earlier(recipes, k);
+        let seen = chapters::look(recipe, false, earlier);
         let tried = chapters::check_records(cell, recipes, false, k, seen);
         let found = entry::find(self, cell, tried, table);
         let verdict = found.verdict;
@@ -118,7 +119,7 @@ impl Run {
         );
         self.point = steps::lead(recipe, self.point, entry, outcome);
         self.configuration = configuration;
-        if chapters::number(recipes) <= self.chapter as usize + 1 {
+        if !earlier {
             return Report { verdict, run: self };
         }
         let run = joint::land(self, recipe);

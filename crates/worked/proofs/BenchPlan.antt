@@ -1,6 +1,6 @@
 -- The bench example's plan: its table is one, the stages show what is lost, and both are computed. Assumes nothing.
 use mathlib.Core.Path.{_≡_, refl, sym, ap, _∙_}
-use mathlib.Core.Bool.{Bool, true, false, cond, not, _&&_, _||_}
+use mathlib.Core.Bool.{Bool, true, false, not, _||_}
 use mathlib.Core.List.{List, [], _∷_}
 use Prim.Native.Nat.{ℕ, suc, _<_}
 use native.Mathlib.Decide.{ℕ-discrete}
@@ -8,20 +8,16 @@ use native.Mathlib.Omega.{arith}
 use lib.ListN.{length, getD}
 use lib.Dec.{eqb, ltb}
 use borrow.Author.Tests.{eq-eqb, eqb-true, ltb-true}
-use Rattle.refusals.specs.declared.Refusal.the-variants.{NotOpen}
 use Rattle.refusals.specs.declared.Verdict.the-variants.{Accepted}
-use Rattle.refusals.specs.Refusal.{numberOf}
-use Rattle.refusals.specs.Search.{firstBelow, anyBelow, allBelow, countBelow, greatestBelow, tabulate, isOf, every}
+use Rattle.refusals.specs.Search.{firstBelow, anyBelow, allBelow, countBelow, greatestBelow, tabulate, isOf}
 use Rattle.refusals.specs.Verdict.{firstRefusal, firstLine, noLine, rule3, lineVerdict}
 use Rattle.refusals.proofs.EveryBelow.{all-at}
-use Rattle.refusals.proofs.Verdicts.{and-left}
 use Rattle.cell.specs.declared.Cell.{Cell}
 use Rattle.chapters.specs.Joined.{Chapters, chapterAt, Point, pointIn, firstPoint, kindAt}
 use Rattle.chapters.specs.Sizes.{Measures, sizesIn, entryIn}
 use Rattle.chapters.specs.Checked.{AllChecked}
 use Rattle.chapters.proofs.OneChapter.{one-lands}
-use Rattle.run.specs.Book.{asks, moved, opened, byTable, atEnd, isOpen, answer, moments, answers}
-use Rattle.run.specs.Promises.{neverShut, Promises}
+use Rattle.run.specs.Book.{asks, opened, atEnd, isOpen}
 use Rattle.cell.specs.Rules as cell
 use Rattle.recipe.specs.Rules as recipe
 use Rattle.positions.specs.declared.Configuration.{Configuration}
@@ -57,6 +53,7 @@ use Rattle.worked.specs.Plans.{benchStages, deadRecipe, deadStages, endR
 use Rattle.worked.proofs.SingleRecipes.{single-entries, single-entry, single-numbered, single-position, single-only, single-checked}
 use Rattle.worked.proofs.SingleRecipes.{all-checked, single-closed, single-lost}
 use Rattle.worked.proofs.Certificates.{staged-unrealisable}
+use Rattle.worked.proofs.ChapterCertificates.{promised-open}
 
 abbrev deadSizes : Sizes
 deadSizes = sizesOf benchCell deadRecipe
@@ -182,22 +179,6 @@ pub dead-recipe : Realisable benchCell (deadRecipe ∷ []) → ⊥
 dead-recipe =
     staged-unrealisable benchCell deadRecipe (computed .dead-sized) deadStages (computed .dead-staged) (omega (arith, computed .dead-start))
 
--- the move that a plan has at a position is open there
-never-refused : (w : Bool) (e : ℕ) → neverShut (cond w (moved 0 e) (moved (numberOf NotOpen) 0)) ≡ true → w ≡ true
-unfolding neverShut
-never-refused true e h = refl
-never-refused false e h = h
-
-pub plan-opens :
-    (c : Cell) (rs : Chapters) (zs : Measures) (table : List ℕ) (p : Point) (a : Configuration)
-    → Promises c rs zs table p a (asks ∷ [])
-    → isOpen c rs (opened p a) (entryIn zs table p a) ≡ true
-unfolding moments answers answer every byTable opened entryIn
-plan-opens c rs zs table p a promises =
-    let e : ℕ = entryIn zs table p a in
-    let h : (neverShut (cond (isOpen c rs (opened p a) e) (moved 0 e) (moved (numberOf NotOpen) 0)) && true) ≡ true = promises .keeps .never-shut in
-    never-refused (isOpen c rs (opened p a) e) e (and-left _ true h)
-
 end-entry : (c : Cell) (rs : Chapters) (p : Point) (a : Configuration) (e : ℕ) → kindAt rs p ≡ 0 → isOpen c rs (opened p a) e ≡ true → e ≡ 67108864
 unfolding isOpen atEnd opened
 end-entry c rs p a e done way = eqb-true e 67108864 (rw (eq-eqb (kindAt rs p) 0 done) at way)
@@ -235,7 +216,7 @@ module _ (before table : List ℕ) (refused : Bool) (plan : Planned benchCell (b
       let some : entryIn benchMeasures table at start ≡ 0 → ⊥ = λ e. plan .zero-lacks at start last e held in
       sym (numbered table)
       ∙ end-entry benchCell (benchRecipe ∷ []) at start _ (computed .last-end)
-      (plan-opens benchCell (benchRecipe ∷ []) benchMeasures table at start (plan .promises at start last some (asks ∷ [])))
+      (promised-open benchCell (benchRecipe ∷ []) benchMeasures table at start (plan .promises at start last some (asks ∷ [])))
     where
       numbered : (t : List ℕ) → entryIn benchMeasures t (pointIn 0 4) start ≡ getD t 72 0
       numbered t = single-numbered benchCell benchRecipe t 4 start 72 (computed .last-number)

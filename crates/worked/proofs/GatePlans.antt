@@ -20,6 +20,7 @@ use Rattle.steps.specs.Carry.{serves, matches, standsAt, present, free, suits, 
 use Rattle.steps.specs.Entry.{entryKind, letter, unused, linesUsed, carryLetters, lettersUsed, namesGate, isLine, isFormed, only, stepOf, mayBeTaken}
 use Rattle.steps.specs.Effect.{taken, effect, isMove, opens, leaves, makes, leadsTo}
 use Rattle.steps.proofs.EntryForms.{carryEntry}
+use Rattle.chapters.specs.Joined.{chapterAt}
 use Rattle.simulation.specs.Simulation.{Realisable}
 use Rattle.simulation.proofs.ClosedTableTest.{rankOf, hasEntry, leadsOn, closedAt, isClosed}
 use Rattle.simulation.proofs.StageTest.{stageOf, noMore, lower, keepsStage, staysStaged, movesStaged, positionStaged, areStages}
@@ -27,7 +28,9 @@ use Rattle.worked.specs.Moves.{filled, benchCell, benchRecipe}
 use Rattle.worked.specs.Gated.{gateCell, gateSizes, benchBehind, againCell, againRecipe}
 use Rattle.worked.specs.GatedPlans.{gateTable, gateRanks, againTable, againRanks, leftStages, stuckStages}
 use Rattle.worked.proofs.Certificates.{closed-realisable, staged-unrealisable}
-use Rattle.worked.proofs.OneMoveOpen.{isSole, soleAt, soleIn}
+use Rattle.worked.proofs.OneMoveOpen.{soleIn}
+use Rattle.worked.proofs.FormedEntries.{formedPass}
+use Rattle.worked.proofs.ChapterCertificates.{soleAt}
 
 -- what is computed
 pub record Computed : Type 0 where
@@ -66,7 +69,7 @@ unfolding isOf firstBelow anyBelow allBelow countBelow greatestBelow tabulate fi
     recipe.rule12 recipe.recipeRules sumBelow productBelow stateCount stateCounts partsIn partCount jointCount sizesFor start
     stateNumber placeNumber positionOf stateWeight pointAt stateAt placeAt configurationAt recordRules rule13 checkSizes firstLineOf
     linesOf kindOf thenOf elseOf isTaken isGiven entryOf rankOf hasEntry leadsOn closedAt isClosed stageOf noMore lower keepsStage
-    staysStaged movesStaged carryEntry positionStaged areStages isSole soleAt soleIn filled benchCell benchRecipe benchBehind gateCell
+    staysStaged movesStaged carryEntry positionStaged areStages chapterAt formedPass soleAt soleIn filled benchCell benchRecipe benchBehind gateCell
     againCell againRecipe gateTable gateRanks againTable againRanks leftStages stuckStages mayDo acts actsOn howMany portFits isStep
     isSilentStep load keepsLimits noneOverfull gateAmong gateOf gated suits stateAfter receiver handed placeAfter after serves matches
     standsAt present free carries putThere placed partsMoved afterCarry entryKind letter unused linesUsed carryLetters lettersUsed

@@ -24,6 +24,7 @@ use Rattle.steps.specs.Carry.{serves, matches, standsAt, present, free, suits, 
 use Rattle.steps.specs.Entry.{entryKind, letter, unused, linesUsed, carryLetters, lettersUsed, namesGate, isLine, isFormed, only, stepOf, mayBeTaken}
 use Rattle.steps.specs.Effect.{taken, effect, isMove, opens, leaves, makes, leadsTo}
 use Rattle.steps.proofs.EntryForms.{carryEntry}
+use Rattle.chapters.specs.Joined.{chapterAt}
 use Rattle.simulation.specs.Plan.{Planned}
 use Rattle.planner.specs.Call.{checkPlan, PlanCall}
 use Rattle.worked.specs.Moves.{filled, benchCell, benchRecipe, benchSizes, benchMeasures, benchEntry, benchTable, benchRanks}
@@ -32,7 +33,9 @@ use Rattle.worked.proofs.BenchPlan.{computed, bench-planned, entry-one,
 use Rattle.worked.proofs.Certificates.{entry-greatest}
 use Rattle.worked.proofs.LedRecipes.{led-recipes}
 use Rattle.worked.proofs.LentLengths.{check-passes, short-refused, short-untouched, call-accepts, call-refuses}
-use Rattle.worked.proofs.OneMoveOpen.{isSole, soleAt, soleIn, sole-planned}
+use Rattle.worked.proofs.OneMoveOpen.{soleIn, sole-planned}
+use Rattle.worked.proofs.FormedEntries.{formedPass}
+use Rattle.worked.proofs.ChapterCertificates.{soleAt}
 
 -- such a move of the bench example's table
 abbrev sole : ℕ → ℕ → Bool
@@ -50,7 +53,7 @@ record Sole : Type 0 where
 soles : Sole
 unfolding isOf firstBelow anyBelow allBelow countBelow greatestBelow tabulate cell.greatestResource cell.alike recipe.holdsPart recipe.pointCount
     sumBelow productBelow stateCount stateCounts partsIn partCount jointCount sizesFor stateNumber placeNumber positionOf stateWeight
-    pointAt stateAt placeAt configurationAt firstLineOf linesOf kindOf thenOf elseOf isTaken isGiven isSole soleAt soleIn carryEntry entryOf filled benchCell
+    pointAt stateAt placeAt configurationAt firstLineOf linesOf kindOf thenOf elseOf isTaken isGiven chapterAt formedPass soleAt soleIn carryEntry entryOf filled benchCell
     benchRecipe benchEntry benchTable deadRecipe endRecipe mayDo acts actsOn howMany portFits isStep isSilentStep load keepsLimits
     noneOverfull gateAmong gateOf gated suits stateAfter receiver handed placeAfter after serves matches standsAt present free carries putThere placed partsMoved
     afterCarry entryKind letter unused linesUsed carryLetters lettersUsed namesGate isLine isFormed only stepOf mayBeTaken taken effect isMove opens leaves makes leadsTo

@@ -55,6 +55,26 @@ fn show_record(f: &mut Formatter, name: &str, record: &[u8], columns: usize) -> 
 }
 
 impl Round {
+    /// A round over all of a table, with one byte changed in what is handed in: the cell, the recipes and the run.
+    pub fn changed_in(
+        good: &[Vec<u8>; 3],
+        (slice, at): (usize, usize),
+        byte: u8,
+        table: &Table,
+    ) -> Round {
+        let mut changed = good.clone();
+        changed[slice][at] = byte;
+        let [cell, recipes, run] = changed;
+        Round {
+            cell,
+            recipes,
+            run,
+            entries: table.entries().len(),
+            outcome: byte % 2,
+            part: 0,
+        }
+    }
+
     /// The run's position in the table, if the round comes past rule 16.
     pub fn position(&self) -> Option<u64> {
         let (_, joined) = accepted(&self.cell, &self.recipes)?;

@@ -493,7 +493,7 @@ fn one_byte_from_the_example() {
         let good = [handed.cell.clone(), handed.recipes.clone(), run];
         // The lines of the cell and its limits; those of both chapters, and one more of each, which counts for
         // nothing; the run.
-        for (record, places) in [
+        for (slice, places) in [
             (0, 0..1 + 5 * 5),
             (0, CELL_BYTES - MOST_RESOURCES..CELL_BYTES),
             (1, 0..1 + 3 * 7),
@@ -501,18 +501,7 @@ fn one_byte_from_the_example() {
             (2, 0..RUN_BYTES),
         ] {
             for (at, byte) in places.flat_map(|at| (0..=255).map(move |byte| (at, byte))) {
-                let mut changed = good.clone();
-                changed[record][at] = byte;
-                let [cell, recipes, run] = changed;
-                let round = Round {
-                    cell,
-                    recipes,
-                    run,
-                    entries: table.entries().len(),
-                    outcome: byte % 2,
-                    part: 0,
-                };
-                compare(&round, &table);
+                compare(&Round::changed_in(&good, (slice, at), byte, &table), &table);
             }
         }
     }

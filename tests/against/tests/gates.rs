@@ -658,23 +658,13 @@ fn one_byte_from_the_example() {
     let at_test = [1, 0, 1, 0, 0, 0, 0, 2, 0, 0, 0, 0, 0, 0, 0, 0];
     let good = [handed.cell.clone(), handed.recipes, at_test.to_vec()];
     // The lines of the cell and one more, which counts for nothing; those of the recipe; the run.
-    for (record, places) in [(0, 0..1 + 8 * 5), (1, 0..1 + 5 * 7), (2, 0..RUN_BYTES)] {
+    for (slice, places) in [(0, 0..1 + 8 * 5), (1, 0..1 + 5 * 7), (2, 0..RUN_BYTES)] {
         for at in places {
             for byte in 0..=255 {
-                let mut changed = good.clone();
-                changed[record][at] = byte;
-                let [cell, recipes, run] = changed;
-                if record == 0 {
-                    read_limits(&cell);
+                let round = Round::changed_in(&good, (slice, at), byte, &table);
+                if slice == 0 {
+                    read_limits(&round.cell);
                 }
-                let round = Round {
-                    cell,
-                    recipes,
-                    run,
-                    entries: table.entries().len(),
-                    outcome: byte % 2,
-                    part: 0,
-                };
                 compare(&round, &table);
             }
         }

@@ -404,6 +404,20 @@ pub fn without_gates(cell: &Cell) -> Cell {
     keeping(cell, |n| cell.act[n] != GATE)
 }
 
+/// These points, and behind them all others to which branches lead from them.
+fn with_all_behind(recipe: &Recipe, mut found: Vec<u8>) -> Vec<u8> {
+    let mut n = 0;
+    while n < found.len() {
+        for branch in recipe.branches_at(found[n]) {
+            if !found.contains(&branch) {
+                found.push(branch);
+            }
+        }
+        n += 1;
+    }
+    found
+}
+
 fn recipe_of_lines(lines: &[RecipeLine]) -> Recipe {
     let mut bytes = [0; RECIPE_BYTES];
     bytes[0] = lines.len() as u8;
@@ -442,17 +456,7 @@ mod tests {
 
     /// The points to which one or more branches lead from a point.
     fn points_after(recipe: &Recipe, point: u8) -> Vec<u8> {
-        let mut found = recipe.branches_at(point);
-        let mut n = 0;
-        while n < found.len() {
-            for branch in recipe.branches_at(found[n]) {
-                if !found.contains(&branch) {
-                    found.push(branch);
-                }
-            }
-            n += 1;
-        }
-        found
+        with_all_behind(recipe, recipe.branches_at(point))
     }
 
     /// The positions to which the planned moves from the start lead, whatever the outcomes.

@@ -1,7 +1,7 @@
 //! Recipes cut into chapters. Where nothing leads back across a cut, and all that leads across it leads to one
 //! point, the recipe and its chapters do the same.
 
-use super::{numbered, recipe_of_lines, RecipeLine, END_LINE};
+use super::{numbered, recipe_of_lines, with_all_behind, RecipeLine, END_LINE};
 use crate::chapters::MOST_CHAPTERS;
 use crate::random::Random;
 use crate::recipe::{Recipe, DO, END, TEST};
@@ -58,16 +58,7 @@ fn joints(recipe: &Recipe, points: &[u8]) -> Vec<u8> {
 
 /// The points to which branches lead from a point, which comes first; the others rise.
 fn reached_from(recipe: &Recipe, point: u8) -> Vec<u8> {
-    let mut found = vec![point];
-    let mut n = 0;
-    while n < found.len() {
-        for branch in recipe.branches_at(found[n]) {
-            if !found.contains(&branch) {
-                found.push(branch);
-            }
-        }
-        n += 1;
-    }
+    let mut found = with_all_behind(recipe, vec![point]);
     found[1..].sort_unstable();
     found
 }

@@ -1,5 +1,4 @@
 use mathlib.Core.Path.{_≡_, refl, sym, _∙_}
-use native.Mathlib.Omega.{arith}
 use borrow.Author.Tests.{not-true, not-false}
 use Rattle.chapters.specs.Records.{chaptersFrom}
 use Rattle.chapters.proofs.AcceptedChapters.{seen-at}
@@ -106,15 +105,6 @@ make-requires c κs =
 lead-requires : tie.Need-lead-requires
 lead-requires c κs = let K = keeps (c .before .before .before .before .before .before) in (K .recipe-passes, K .point-below)
 
-number-requires : tie.Need-number-requires
-number-requires c κs = search needs
-
-cast-if4 : tie.Need-cast-if4
-cast-if4 c = search needs
-
-add-if4 : tie.Need-add-if4
-add-if4 c = search needs
-
 -- the run before it lands
 abbrev at-told-of : tie.After-lead → tie.After-enum-told
 at-told-of c = c .before .before .before .before .before .before .before
@@ -142,26 +132,26 @@ made c =
 
 returns-5 : tie.Need-returns-5
 returns-5 c =
-    let at-lead = c .before .before .before in
+    let at-lead = c .before in
     let at-told = at-told-of at-lead in
     let at-find = at-told .before .before in
     report-stays _ _ _ _ _ (at-find .before .before .before .before .chapter .ensures) _ (found at-find) (at-told .enum-told .given .1) _
-    (moved at-lead) (made at-lead) (omega (arith, c .before .before .number .ensures, c .if4 .taken))
+    (moved at-lead) (made at-lead) (sym (at-find .before .before .before .is-earlier .ensures) ∙ not-true _ (c .if4 .taken))
 
 land-requires : tie.Need-land-requires
 land-requires c κs =
-    let at-lead = c .before .before .before in
+    let at-lead = c .before in
     let K = keeps (at-told-of at-lead) in
     let below = lead-below _ _ _ _ (K .recipe-passes) (K .point-below) (made at-lead .some) in
     (K .recipe-passes, (rw (at-lead .lead .ensures) below, K .chapter-below))
 
 returns-6 : tie.Need-returns-6
 returns-6 c =
-    let at-lead = c .before .before .before .before in
+    let at-lead = c .before .before in
     let at-told = at-told-of at-lead in
     let at-find = at-told .before .before in
     report-lands _ _ _ _ _ (at-find .before .before .before .before .chapter .ensures) _ (found at-find) (at-told .enum-told .given .1) _
-    (moved at-lead) (made at-lead) _ (omega (arith, c .before .before .before .number .ensures, c .before .if4 .left)) (c .land .ensures)
+    (moved at-lead) (made at-lead) _ (sym (at-find .before .before .before .is-earlier .ensures) ∙ not-false _ (c .before .if4 .left)) (c .land .ensures)
 
 pub report-spec : {M : Type 1} → statement M
 report-spec =
@@ -186,9 +176,6 @@ report-spec =
     returns-4
     make-requires
     lead-requires
-    number-requires
-    cast-if4
-    add-if4
     returns-5
     land-requires
     returns-6)
