@@ -17,6 +17,7 @@ use Rattle.recipe.specs.Rules.{holdsPart}
 use Rattle.positions.specs.declared.Configuration.{Configuration}
 use Rattle.steps.specs.Lines.{resourceOf, placeOf, firstLineOf, linesOf, kindOf, takesOf, givesOf, isTaken, isGiven}
 use Rattle.steps.specs.Limits.{load}
+use Rattle.steps.specs.Gates.{gated}
 use Rattle.steps.specs.Joint.{Choice, rests, handed, placeAfter, after}
 use Rattle.steps.specs.Carry.{standsAt, present, isFree, free, putThere, placed, partsMoved, afterCarry}
 use Rattle.steps.proofs.StationLoads.{load-grows}
@@ -95,22 +96,27 @@ module _
           (put-none (c .resource) (r .gives) (firstLineOf r p) ls q (suc k) (linesOf r p)
           (λ j less. any-not (λ j. holdsPart (givesOf r p j) q) (linesOf r p) j (ungiven work) less))
 
-      -- so it stays if the resource rests
-      stays : y k ≡ rests → placeOf (afterCarry c r p y ls 1 b) q ≡ suc k
-      unfolding afterCarry placeAfter handed
-      stays idle = decide (eqb (kindOf r p) 1) refl
+      -- so it stays if the resource rests, at either outcome
+      stays : (outcome : ℕ) → y k ≡ rests → placeOf (afterCarry c r p y ls outcome b) q ≡ suc k
+      unfolding afterCarry placeAfter handed gated
+      stays outcome idle = decide (eqb (kindOf r p) 1) (eqb outcome 1) refl
         where
           still : placeOf (after c y b) q ≡ suc k
           still = after-at q low ∙ rw (here, idle)
 
-          decide : (t : Bool) → eqb (kindOf r p) 1 ≡ t → placeOf (cond t (partsMoved c r p ls (after c y b)) (after c y b)) q ≡ suc k
-          decide true e = moved-at (after c y b) q low ∙ ap (placed c r p ls q) still ∙ placed-here (eqb-true _ _ e)
-          decide false e = still
+          decide :
+              (t u : Bool)
+              → eqb (kindOf r p) 1 ≡ t
+              → placeOf (cond t (partsMoved c r p ls (after c y b)) (cond u (after c y b) (gated c (ls 0) (after c y b)))) q ≡ suc k
+          decide true u e = moved-at (after c y b) q low ∙ ap (placed c r p ls q) still ∙ placed-here (eqb-true _ _ e)
+          decide false true e = still
+          decide false false e = still
 
     -- a resource that rests, and is of no line of the point, holds no less after the step
-    pub carry-load : present c r p ls b ≡ true → (kindOf r p ≡ 1 → free r p b ≡ true) → y k ≡ rests
-        → load (b .place) k ≤ load (afterCarry c r p y ls 1 b .place) k
-    carry-load there clear idle = load-grows (b .place) (afterCarry c r p y ls 1 b .place) k (λ q low here. stays there clear q low here idle)
+    pub carry-load : present c r p ls b ≡ true → (kindOf r p ≡ 1 → free r p b ≡ true) → (outcome : ℕ) → y k ≡ rests
+        → load (b .place) k ≤ load (afterCarry c r p y ls outcome b .place) k
+    carry-load there clear outcome idle =
+        load-grows (b .place) (afterCarry c r p y ls outcome b .place) k (λ q low here. stays there clear q low here outcome idle)
 
     -- and what it holds then, it held when the parts were moved
     pub moved-load : load (afterCarry c r p y ls 1 b .place) k ≤ load (after c y b .place) k

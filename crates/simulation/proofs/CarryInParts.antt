@@ -5,7 +5,6 @@ use mathlib.Core.Path.{_≡_, refl, sym, ap, _∙_}
 use mathlib.Core.Bool.{Bool, true, false, cond, not, _&&_, _||_, true≢false}
 use mathlib.Core.List.{List}
 use Prim.Native.Nat.{ℕ, zero, suc, _+_, _<_, _≤_}
-use native.Mathlib.Decide.{ℕ-discrete}
 use native.Mathlib.Numerals.{add-one}
 use native.Mathlib.Omega.{arith}
 use lib.ListN.{length, getD, set}
@@ -25,14 +24,14 @@ use Rattle.positions.specs.declared.Configuration.{Configuration}
 use Rattle.steps.specs.Lines.{resourceOf, toOf, stateOf, placeOf, firstLineOf, linesOf, lineOf, kindOf, isTaken, isGiven}
 use Rattle.steps.specs.Limits.{load, noneOverfull}
 use Rattle.steps.specs.Gates.{gateOf, gated}
-use Rattle.steps.specs.Joint.{Choice, rests, mayDo, acts, isStep, isSilent, stateAfter, handed, placeAfter, after}
+use Rattle.steps.specs.Joint.{Choice, rests, acts, isStep, isSilent, stateAfter, handed, placeAfter, after}
 use Rattle.steps.specs.Carry.{serves, matches, standsAt, present, isFree, free, suits, carries, putThere, placed, partsMoved, afterCarry}
 use Rattle.steps.proofs.ReadyLines.{both, resources-fit}
 use Rattle.steps.proofs.StationLoads.{carry-suits, carry-room, carry-by, room-at, room-by, rest-load}
 use Rattle.steps.proofs.CarryLines.{suiting, match-at, taken-at, match-count}
 use Rattle.steps.proofs.MadeConfiguration.{join}
-use Rattle.simulation.proofs.StepInParts.{part, rest, Closed, part-in, part-out, rest-in, part-silent, part-keeps, may-same}
-use Rattle.simulation.proofs.StepInParts.{part-step, after-place, rest-step, parted-after, part-load}
+use Rattle.simulation.proofs.StepInParts.{part, rest, Closed, part-in, part-out, rest-in, part-silent, part-keeps}
+use Rattle.simulation.proofs.StepInParts.{part-step, after-place, rest-still, rest-states, rest-step, parted-after, part-load}
 use Rattle.simulation.proofs.CarriedLoads.{carry-load, moved-load}
 
 -- the resources in s take all the operations, or none
@@ -161,16 +160,6 @@ put-stays c y gives first ls q v (suc n) still =
     decide before false = before
 
 module _ (c : Cell) (r : Recipe) (p : ℕ) (ls : ℕ → ℕ) (y : Choice) (b : Configuration) where
-  -- a step may be taken, parts moved or not
-  moved-step : isStep c b y ≡ true → isStep c (partsMoved c r p ls b) y ≡ true
-  unfolding isStep partsMoved
-  moved-step step =
-      both _ _
-      (all-by (λ k. mayDo c (partsMoved c r p ls b) k (y k)) 6
-      (λ k low. may-same c b (partsMoved c r p ls b) k (y k) refl
-      (all-at (λ k. mayDo c b k (y k)) 6 k (search and-left) low)))
-      (search and-right)
-
   module _ (still : (j : ℕ) → j < linesOf r p → y (resourceOf c (ls j)) ≡ rests) where
     placed-stays : (q v : ℕ) → placeAfter c y (placed c r p ls q v) ≡ placed c r p ls q (placeAfter c y v)
     unfolding placed placeAfter
@@ -194,20 +183,8 @@ module _ (c : Cell) (r : Recipe) (p : ℕ) (ls : ℕ → ℕ) (y : Choice) (b : 
             ∙ placed-stays q (placeOf b q)
             ∙ ap (placed c r p ls q) (sym (tabulate-at (λ q. placeAfter c y (placeOf b q)) 8 q low))
 
--- a step that rests at the resource of line l may be taken, whichever outcome a test by that line had, and makes the same before
--- or after it
+-- a step that rests at the resource of line l makes the same before or after a test by that line, whichever outcome it had
 module _ (c : Cell) (l : ℕ) (y : Choice) (b : Configuration) (idle : y (resourceOf c l) ≡ rests) where
-  gated-step : isStep c b y ≡ true → isStep c (gated c l b) y ≡ true
-  unfolding isStep mayDo gated
-  gated-step step =
-      both _ _ (all-by (λ k. mayDo c (gated c l b) k (y k)) 6 (λ k low. decide k low (ℕ-discrete k (resourceOf c l)))) (search and-right)
-    where
-      decide : (k : ℕ) → k < 6 → Dec (k ≡ resourceOf c l) → mayDo c (gated c l b) k (y k) ≡ true
-      decide k low (yes own) = rw (own, idle)
-      decide k low (no other) =
-          may-same c b (gated c l b) k (y k) (sym (getD-set-other (b .state) (resourceOf c l) k (toOf c (gateOf c l)) 0 other))
-          (all-at (λ k. mayDo c b k (y k)) 6 k (search and-left) low)
-
   gated-after : length (b .state) ≡ 6 → resourceOf c l < 6 → after c y (gated c l b) ≡ gated c l (after c y b)
   unfolding after gated stateAfter
   gated-after six low =
@@ -320,7 +297,7 @@ module _
           decide k low true e =
               let away : (j : ℕ) → j < linesOf r p → resourceOf c (ls j) ≡ k → ⊥ =
               λ j less same. true≢false (sym e ∙ ap s (sym same) ∙ line-out j less) in
-              let grown = carry-load c r p (rest x s) ls middle k away (there .0) (there .1) (rest-in x s k e) in
+              let grown = carry-load c r p (rest x s) ls middle k away (there .0) (there .1) 1 (rest-in x s k e) in
               let room = room-at c _ (carry-room c r p (rest x s) ls middle (rest-carries most)) k low in
               omega (arith, grown, room)
           decide k low false e =
@@ -339,6 +316,10 @@ module _
       still : (j : ℕ) → j < linesOf r p → rest x s (resourceOf c (ls j)) ≡ rests
       still j less = rest-in x s (resourceOf c (ls j)) (line-within c good r p x ls match s all j less)
 
+      -- a resource that isn't in the part is of no line of the point
+      apart : (k : ℕ) → s k ≡ false → (j : ℕ) → j < linesOf r p → resourceOf c (ls j) ≡ k → ⊥
+      apart k e j less at = true≢false (sym (line-within c good r p x ls match s all j less) ∙ ap s at ∙ e)
+
       module _ (some : 1 ≤ linesOf r p) where
         first : ls 0 < c .count
         unfolding serves
@@ -346,17 +327,27 @@ module _
             let here : serves c r p x ls 0 ≡ true = match-at c r p x ls match 0 some in
             ltb-true _ _ (search (and-left, and-right))
 
-        pub carried-rest-step : (outcome : ℕ) → isStep c (afterCarry c r p (part x s) ls outcome a) (rest x s) ≡ true
-        unfolding afterCarry
-        carried-rest-step outcome = decide (eqb (kindOf r p) 1) (eqb outcome 1)
+        -- a resource that isn't in the part is in its state after it, at either outcome
+        carried-states : (outcome k : ℕ) → k < 6 → s k ≡ false → stateOf a k ≡ stateOf (afterCarry c r p (part x s) ls outcome a) k
+        unfolding afterCarry partsMoved gated
+        carried-states outcome k low e = decide (eqb (kindOf r p) 1) (eqb outcome 1)
           where
-            may : isStep c middle (rest x s) ≡ true
-            may = rest-step c good a x step s closed
+            same : stateOf a k ≡ stateOf middle k
+            same = rest-states c good a x step s closed k low e
 
-            decide : (b t : Bool) → isStep c (cond b (partsMoved c r p ls middle) (cond t middle (gated c (ls 0) middle))) (rest x s) ≡ true
-            decide true t = moved-step c r p ls (rest x s) middle may
-            decide false true = may
-            decide false false = gated-step c (ls 0) (rest x s) middle (still 0 some) may
+            other : k ≡ resourceOf c (ls 0) → ⊥
+            other own = apart k e 0 some (sym own)
+
+            decide : (b t : Bool) → stateOf a k ≡ stateOf (cond b (partsMoved c r p ls middle) (cond t middle (gated c (ls 0) middle))) k
+            decide true t = same
+            decide false true = same
+            decide false false = same ∙ sym (getD-set-other (middle .state) (resourceOf c (ls 0)) k (toOf c (gateOf c (ls 0))) 0 other)
+
+        pub carried-rest-step : (outcome : ℕ) → isStep c (afterCarry c r p (part x s) ls outcome a) (rest x s) ≡ true
+        carried-rest-step outcome =
+            let there = found c r p x ls a suit in
+            rest-still c good a x step s closed (afterCarry c r p (part x s) ls outcome a) (carried-states outcome)
+            (λ k low e. carry-load c r p (part x s) ls a k (apart k e) (there .0) (there .1) outcome (part-out x s k e))
 
         pub carried-parted : (outcome : ℕ) → ((q : ℕ) → q < 8 → placeOf a q ≤ 6)
             → after c (rest x s) (afterCarry c r p (part x s) ls outcome a) ≡ afterCarry c r p x ls outcome a
@@ -390,8 +381,6 @@ module _
               let room = room-at c _ (carry-room c r p x ls a carry) k low in
               omega (arith, grown, same, room)
           decide k low false e =
-              let away : (j : ℕ) → j < linesOf r p → resourceOf c (ls j) ≡ k → ⊥ =
-              λ j less at. true≢false (sym (line-within c good r p x ls match s all j less) ∙ ap s at ∙ e) in
-              let moved = moved-load c r p (part x s) ls a k away in
+              let moved = moved-load c r p (part x s) ls a k (apart k e) in
               let same : load (middle .place) k ≡ load (a .place) k = rw e at (part-load c good a x step s closed most k low) in
               omega (arith, moved, same, room-at c a before k low)

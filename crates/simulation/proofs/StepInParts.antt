@@ -10,15 +10,16 @@ use borrow.Author.Tests.{eq-eqb, ne-eqb}
 use Rattle.refusals.specs.declared.Verdict.the-variants.{Accepted}
 use Rattle.refusals.proofs.EveryBelow.{all-by, all-at, any-none, count-same}
 use Rattle.refusals.proofs.TabulatedLists.{tabulate-at, tabulate-same}
-use Rattle.refusals.proofs.Verdicts.{and-left}
+use Rattle.refusals.proofs.Verdicts.{and-left, and-right}
 use Rattle.cell.specs.declared.Cell.{Cell}
 use Rattle.cell.specs.Rules.{checkCell}
 use Rattle.positions.specs.declared.Configuration.{Configuration}
 use Rattle.steps.specs.Lines.{actOf, argOf, stateOf, placeOf}
 use Rattle.steps.specs.Limits.{load, noneOverfull}
-use Rattle.steps.specs.Joint.{Choice, rests, mayDo, acts, actsOn, isStep, isSilent, stateAfter, handed, placeAfter, after}
+use Rattle.steps.specs.Joint.{Choice, rests, outStarts, mayDo, acts, actsOn, isStep, isSilent, stateAfter, handed, placeAfter, after}
 use Rattle.steps.proofs.ReadyLines.{both}
-use Rattle.steps.proofs.StationLoads.{room-at, room-by}
+use Rattle.steps.proofs.StationLoads.{room-at, room-by, rest-load}
+use Rattle.steps.proofs.LoadedLanes.{out-stays}
 use Rattle.steps.proofs.MadeConfiguration.{join}
 use Rattle.simulation.proofs.PortPairs.{Paired, paired-fits, receives, step-paired}
 
@@ -165,11 +166,18 @@ negated s k e = rw e
 differ : (s : ℕ → Bool) (k i : ℕ) → k ≡ i → s k ≡ true → s i ≡ false → ⊥
 differ s k i e f g = true≢false (sym f ∙ ap s e ∙ g)
 
--- what a resource may do depends on its state alone
-pub may-same : (c : Cell) (a b : Configuration) (k u : ℕ) → stateOf a k ≡ stateOf b k → mayDo c a k u ≡ true → mayDo c b k u ≡ true
+-- what a resource may do it may still do in the same state, holding no less
+may-still :
+    (c : Cell) (a b : Configuration) (k u : ℕ)
+    → stateOf a k ≡ stateOf b k
+    → load (a .place) k ≤ load (b .place) k
+    → mayDo c a k u ≡ true
+    → mayDo c b k u ≡ true
 unfolding mayDo
-may-same c a b k zero same may = refl
-may-same c a b k (suc l) same may = rw (← same) may
+may-still c a b k zero same more may = refl
+may-still c a b k (suc l) same more may =
+    let starts : outStarts c b k l ≡ true = out-stays c a b k l more (search (and-left, and-right)) in
+    rw (← same) (search (both, and-left, and-right))
 
 module _
     (c : Cell) (good : checkCell c ≡ Accepted) (a : Configuration) (x : Choice) (step : isStep c a x ≡ true)
@@ -203,17 +211,28 @@ module _
     unfolding after
     after-place q low = tabulate-at (λ q. placeAfter c (part x s) (placeOf a q)) 8 q low
 
-    -- and then the rest
-    pub rest-step : isStep c (after c (part x s) a) (rest x s) ≡ true
-    unfolding isStep rest mayDo stateAfter
-    rest-step =
-        both _ _ (all-by (λ k. mayDo c (after c (part x s) a) k (rest x s k)) 6 (λ k low. each k low (s k) refl))
+    -- the rest may be taken wherever its resources are in their states and hold no less than they did
+    pub rest-still :
+        (b : Configuration)
+        → ((k : ℕ) → k < 6 → s k ≡ false → stateOf a k ≡ stateOf b k)
+        → ((k : ℕ) → k < 6 → s k ≡ false → load (a .place) k ≤ load (b .place) k)
+        → isStep c b (rest x s) ≡ true
+    unfolding isStep rest mayDo
+    rest-still b same more =
+        both _ _ (all-by (λ k. mayDo c b k (rest x s k)) 6 (λ k low. each k low (s k) refl))
         (paired-fits c (rest x s) (part-paired c x paired (λ k. not (s k)) others-closed))
       where
-        each : (k : ℕ) → k < 6 → (b : Bool) → s k ≡ b → mayDo c (after c (part x s) a) k (rest x s k) ≡ true
+        each : (k : ℕ) → k < 6 → (t : Bool) → s k ≡ t → mayDo c b k (rest x s k) ≡ true
         each k low true e = rw (rest-in x s k e)
-        each k low false e =
-            rw (rest-out x s k e) (may-same c a (after c (part x s) a) k (x k) (sym (after-state k low ∙ rw (part-out x s k e))) (may k low))
+        each k low false e = rw (rest-out x s k e) (may-still c a b k (x k) (same k low e) (more k low e) (may k low))
+
+    pub rest-states : (k : ℕ) → k < 6 → s k ≡ false → stateOf a k ≡ stateOf (after c (part x s) a) k
+    unfolding stateAfter
+    rest-states k low e = sym (after-state k low ∙ rw (part-out x s k e))
+
+    -- so it may after the part
+    pub rest-step : isStep c (after c (part x s) a) (rest x s) ≡ true
+    rest-step = rest-still (after c (part x s) a) rest-states (λ k low e. rest-load c (part x s) a k (part-out x s k e))
 
     states-parted : (k v : ℕ) → stateAfter c (rest x s k) (stateAfter c (part x s k) v) ≡ stateAfter c (x k) v
     unfolding stateAfter

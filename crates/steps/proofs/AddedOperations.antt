@@ -18,7 +18,7 @@ use Rattle.positions.specs.declared.Configuration.{Configuration}
 use Rattle.steps.specs.Lines.{resourceOf, fromOf, actOf, argOf, toOf, placeOf, linesOf, opOf}
 use Rattle.steps.specs.Limits.{noneOverfull}
 use Rattle.steps.specs.Gates.{gateOf, gated}
-use Rattle.steps.specs.Joint.{Choice, rests, takes, mayDo, acts, actsOn, isStep, isSilent}
+use Rattle.steps.specs.Joint.{Choice, rests, takes, outStarts, mayDo, acts, actsOn, isStep, isSilent}
 use Rattle.steps.specs.Joint.{stateAfter, handed, after, isSilentStep}
 use Rattle.steps.specs.Carry.{serves, matches, present, suits, afterCarry, carries}
 use Rattle.steps.proofs.ReadyLines.{both, may-low, step-may}
@@ -57,7 +57,7 @@ module _ (c d : Cell) (added : AddedOperations c d) where
 
   -- a line does under its new number what it did
   line-alike : (u : ℕ) → Own u → Alike c d u (movedLine (added .at) u)
-  unfolding mayDo acts actsOn stateAfter handed movedLine
+  unfolding mayDo outStarts acts actsOn stateAfter handed movedLine
   line-alike zero own =
       record {
         may = λ a k. refl;
@@ -76,6 +76,7 @@ module _ (c d : Cell) (added : AddedOperations c d) where
               added .same-resource l low,
               added .same-from l low,
               added .same-act l low,
+              added .same-arg l low,
             );
         acting = λ act. rw (added .same-act l low);
         acting-on = λ act port. rw (added .same-act l low, added .same-arg l low);

@@ -1,5 +1,6 @@
 pub mod Lines
 pub mod Limits
+pub mod Lanes
 pub mod Gates
 pub mod Joint
 pub mod Carry

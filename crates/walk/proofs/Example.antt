@@ -29,7 +29,8 @@ use Rattle.positions.specs.Rules.{checkRecords, recordRules, rule13, rule14, pl
 use Rattle.steps.specs.Lines.{firstLineOf, linesOf, kindOf, thenOf, elseOf, isTaken, isGiven}
 use Rattle.steps.specs.Limits.{load, keepsLimits, noneOverfull}
 use Rattle.steps.specs.Gates.{gateAmong, gateOf, gated}
-use Rattle.steps.specs.Joint.{mayDo, acts, actsOn, howMany, portFits, isStep, isSilentStep, stateAfter, receiver, handed, placeAfter, after, isSilent}
+use Rattle.steps.specs.Lanes.{isLoaded, laneStarts}
+use Rattle.steps.specs.Joint.{outStarts, mayDo, acts, actsOn, howMany, portFits, isStep, isSilentStep, stateAfter, receiver, handed, placeAfter, after, isSilent}
 use Rattle.steps.specs.Carry.{serves, matches, standsAt, present, free, suits, carries, putThere, placed, partsMoved, afterCarry, isFree}
 use Rattle.steps.specs.Entry.{entryKind, letter, unused, linesUsed, carryLetters, lettersUsed, namesGate, isLine, isFormed, only, stepOf, mayBeTaken}
 use Rattle.steps.specs.Effect.{taken, effect, isMove, opens, leaves, makes, leadsTo}
@@ -126,7 +127,7 @@ unfolding isOf firstBelow anyBelow allBelow countBelow greatestBelow tabulate fi
     rule14 placeCount isPosition rule16 firstLineOf linesOf kindOf thenOf elseOf isTaken isGiven freshRun entryOf tableRules entryRules
     moveRules reportRules rule17 rule18 rule19 nextMove nextRun reportOf filled benchCell benchRecipe benchEntry benchTable isDigit
     ifAccepted lastDigit digitsOf field moveLine digits row cellFile recipeWith recipeFile cellNames recipeNames numbered positionIn
-    reported told printed Along mayDo acts actsOn howMany portFits isStep isSilentStep load keepsLimits noneOverfull gateAmong gateOf gated suits stateAfter
+    reported told printed Along isLoaded laneStarts outStarts mayDo acts actsOn howMany portFits isStep isSilentStep load keepsLimits noneOverfull gateAmong gateOf gated suits stateAfter
     receiver handed placeAfter after serves matches standsAt present free carries putThere placed partsMoved afterCarry entryKind letter
     unused linesUsed carryLetters lettersUsed namesGate isLine isFormed only stepOf mayBeTaken taken effect isMove opens leaves makes leadsTo cell.inRange cell.gap
     cell.hasNoLine recipe.inRange recipe.hasUnused farthest stateWeight stateFits placeFits isSilent isFree lineVerdict chapterAt isEarlier landing sizesIn pointsAt sizes.partsIn begins

@@ -9,7 +9,8 @@ use Rattle.positions.specs.Position.{stateNumber, placeNumber, positionOf, stat
 use Rattle.steps.specs.Lines.{firstLineOf, linesOf, kindOf, thenOf, elseOf, isTaken, isGiven}
 use Rattle.steps.specs.Limits.{load, keepsLimits, noneOverfull}
 use Rattle.steps.specs.Gates.{gateAmong, gateOf, gated}
-use Rattle.steps.specs.Joint.{mayDo, acts, actsOn, howMany, portFits, isStep, isSilentStep, stateAfter, receiver, handed, placeAfter, after, isSilent}
+use Rattle.steps.specs.Lanes.{isLoaded, laneStarts}
+use Rattle.steps.specs.Joint.{outStarts, mayDo, acts, actsOn, howMany, portFits, isStep, isSilentStep, stateAfter, receiver, handed, placeAfter, after, isSilent}
 use Rattle.steps.specs.Carry.{serves, matches, standsAt, present, free, suits, carries, putThere, placed, partsMoved, afterCarry, isFree}
 use Rattle.steps.specs.Entry.{entryKind, letter, unused, linesUsed, carryLetters, lettersUsed, namesGate, isLine, isFormed, only, stepOf, mayBeTaken}
 use Rattle.steps.specs.Effect.{taken, effect, isMove, opens, leaves, makes, leadsTo}
@@ -33,7 +34,7 @@ pub record Moves : Type 0 where
 pub moves : Moves
 unfolding isOf firstBelow anyBelow allBelow countBelow greatestBelow tabulate greatestResource holdsPart pointCount sumBelow productBelow
     stateCount stateCounts partsIn partCount jointCount sizesFor stateNumber placeNumber positionOf stateWeight pointAt stateAt placeAt
-    configurationAt firstLineOf linesOf kindOf thenOf elseOf isTaken isGiven filled benchCell benchRecipe nextIn mayDo acts actsOn howMany
+    configurationAt firstLineOf linesOf kindOf thenOf elseOf isTaken isGiven filled benchCell benchRecipe nextIn isLoaded laneStarts outStarts mayDo acts actsOn howMany
     portFits isStep isSilentStep load keepsLimits noneOverfull alike gateAmong gateOf gated suits stateAfter receiver handed placeAfter after serves matches standsAt
     present free carries putThere placed partsMoved afterCarry entryKind letter unused linesUsed carryLetters lettersUsed namesGate isLine isFormed only stepOf mayBeTaken
     taken effect isMove opens leaves makes leadsTo farthest isSilent isFree

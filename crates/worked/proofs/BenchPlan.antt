@@ -32,7 +32,8 @@ use Rattle.positions.proofs.PositionNumbers.{position-lt}
 use Rattle.steps.specs.Lines.{firstLineOf, linesOf, kindOf, thenOf, elseOf, isTaken, isGiven}
 use Rattle.steps.specs.Limits.{load, keepsLimits, noneOverfull}
 use Rattle.steps.specs.Gates.{gateAmong, gateOf, gated}
-use Rattle.steps.specs.Joint.{mayDo, acts, actsOn, howMany, portFits, isStep, isSilentStep, stateAfter, receiver, handed, placeAfter, after, isSilent}
+use Rattle.steps.specs.Lanes.{isLoaded, laneStarts}
+use Rattle.steps.specs.Joint.{outStarts, mayDo, acts, actsOn, howMany, portFits, isStep, isSilentStep, stateAfter, receiver, handed, placeAfter, after, isSilent}
 use Rattle.steps.specs.Carry.{serves, matches, standsAt, present, free, suits, carries, putThere, placed, partsMoved, afterCarry, isFree}
 use Rattle.steps.specs.Entry.{entryKind, letter, unused, linesUsed, carryLetters, lettersUsed, namesGate, isLine, isFormed, only, stepOf, mayBeTaken}
 use Rattle.steps.specs.Effect.{taken, effect, isMove, opens, leaves, makes, leadsTo}
@@ -58,6 +59,14 @@ use Rattle.worked.proofs.ChapterCertificates.{promised-open}
 abbrev deadSizes : Sizes
 deadSizes = sizesOf benchCell deadRecipe
 
+-- position m has no entry
+record NoEntry (m : ℕ) : Type 0 where
+  number : positionOf benchSizes (pointAt benchSizes m) (configurationAt benchSizes m) ≡ m
+  range : isPosition benchSizes (pointAt benchSizes m) (configurationAt benchSizes m) ≡ true
+  six : length (configurationAt benchSizes m .state) ≡ 6
+  eight : length (configurationAt benchSizes m .place) ≡ 8
+  none : getD benchTable m 0 ≡ 0
+
 -- what is computed
 pub record Computed : Type 0 where
   pub sized : checkSizes benchCell benchRecipe ≡ Accepted
@@ -73,19 +82,16 @@ pub record Computed : Type 0 where
   dead-start : stageOf deadSizes deadStages 0 start ≡ 3
   six : length (start .state) ≡ 6
   eight : length (start .place) ≡ 8
-  -- position 1, which has no entry
-  first-number : positionOf benchSizes (pointAt benchSizes 1) (configurationAt benchSizes 1) ≡ 1
-  first-range : isPosition benchSizes (pointAt benchSizes 1) (configurationAt benchSizes 1) ≡ true
-  first-six : length (configurationAt benchSizes 1 .state) ≡ 6
-  first-eight : length (configurationAt benchSizes 1 .place) ≡ 8
-  first-none : getD benchTable 1 0 ≡ 0
+  -- positions 1 and 23, which have no entry
+  first : NoEntry 1
+  empty-lane : NoEntry 23
   -- position 72, point 4 with the starting configuration, which is an end
   last-number : positionOf benchSizes 4 start ≡ 72
   last-range : isPosition benchSizes 4 start ≡ true
   last-some : getD benchTable 72 0 ≡ 67108864
   last-end : kindOf benchRecipe 4 ≡ 0
-  -- "25 nonzero positions"
-  pub many : countBelow (λ m. not (eqb (getD benchTable m 0) 0)) 90 ≡ 25
+  -- one fewer than before lanes had to be loaded: position 23 has none
+  pub many : countBelow (λ m. not (eqb (getD benchTable m 0) 0)) 90 ≡ 24
   pub end-sized : checkSizes benchCell endRecipe ≡ Accepted
   end-ends : kindOf endRecipe 0 ≡ 0
   -- no station of the bench example has a limit
@@ -101,7 +107,7 @@ unfolding isOf firstBelow anyBelow allBelow countBelow greatestBelow tabulate fi
     stateNumber placeNumber positionOf stateWeight pointAt stateAt placeAt configurationAt recordRules rule13 checkSizes placeCount
     isPosition firstLineOf linesOf kindOf thenOf elseOf isTaken isGiven entryOf rankOf hasEntry leadsOn closedAt isClosed stageOf noMore
     lower keepsStage staysStaged movesStaged carryEntry positionStaged areStages filled benchCell benchRecipe benchEntry benchTable benchRanks
-    benchStages deadRecipe deadStages endRecipe mayDo acts actsOn howMany portFits isStep isSilentStep load keepsLimits noneOverfull gateAmong gateOf gated suits
+    benchStages deadRecipe deadStages endRecipe isLoaded laneStarts outStarts mayDo acts actsOn howMany portFits isStep isSilentStep load keepsLimits noneOverfull gateAmong gateOf gated suits
     stateAfter receiver handed placeAfter after serves matches standsAt present free carries putThere placed partsMoved afterCarry entryKind
     letter unused linesUsed carryLetters lettersUsed namesGate isLine isFormed only stepOf mayBeTaken taken effect isMove opens leaves makes leadsTo cell.inRange cell.gap
     cell.hasNoLine recipe.inRange recipe.hasUnused farthest stateFits placeFits isSilent isFree lineVerdict
@@ -119,11 +125,8 @@ computed =
       dead-start = refl;
       six = refl;
       eight = refl;
-      first-number = refl;
-      first-range = refl;
-      first-six = refl;
-      first-eight = refl;
-      first-none = refl;
+      first = record { number = refl; range = refl; six = refl; eight = refl; none = refl };
+      empty-lane = record { number = refl; range = refl; six = refl; eight = refl; none = refl };
       last-number = refl;
       last-range = refl;
       last-some = refl;
@@ -154,7 +157,7 @@ zeros p a valid none =
     let high : 0 < getD benchStages m 0 = ltb-true 0 _ (passes (eqb (getD benchTable m 0) 0) _ here (eq-eqb _ 0 none)) in
     stages-lost benchCell benchRecipe benchSizes benchStages bench-checked (computed .staged) p a valid high
 
--- the table is a plan: its 25 entries stand at the positions of the greatest simulation, and they keep every promise
+-- the table is a plan: its 24 entries stand at the positions of the greatest simulation, and they keep every promise
 pub bench-planned : Planned benchCell (benchRecipe ∷ []) benchMeasures benchTable benchTable false
 bench-planned =
     planned benchCell (benchRecipe ∷ []) (all-checked benchCell benchRecipe (computed .sized)) benchTable benchTable
@@ -185,24 +188,29 @@ end-entry c rs p a e done way = eqb-true e 67108864 (rw (eq-eqb (kindAt rs p) 0 
 
 -- of any table that is a plan
 module _ (before table : List ℕ) (refused : Bool) (plan : Planned benchCell (benchRecipe ∷ []) benchMeasures before table refused) where
-  -- ‡ "entry 1 is 0"
-  pub entry-one : getD table 1 0 ≡ 0
-  entry-one = decide (ℕ-discrete (getD table 1 0) 0)
+  entry-none : (m : ℕ) → NoEntry m → getD table m 0 ≡ 0
+  entry-none m lacks = decide (ℕ-discrete (getD table m 0) 0)
     where
-      first : PositionIn (benchRecipe ∷ []) benchMeasures (pointIn 0 (pointAt benchSizes 1)) (configurationAt benchSizes 1)
-      first =
-          single-position benchCell benchRecipe _ _
-          (record { in-range = computed .first-range; six = computed .first-six; eight = computed .first-eight })
+      here : PositionIn (benchRecipe ∷ []) benchMeasures (pointIn 0 (pointAt benchSizes m)) (configurationAt benchSizes m)
+      here = single-position benchCell benchRecipe _ _ (record { in-range = lacks .range; six = lacks .six; eight = lacks .eight })
 
-      numbered : (t : List ℕ) → entryIn benchMeasures t (pointIn 0 (pointAt benchSizes 1)) (configurationAt benchSizes 1) ≡ getD t 1 0
-      numbered t = single-numbered benchCell benchRecipe t (pointAt benchSizes 1) (configurationAt benchSizes 1) 1 (computed .first-number)
+      numbered : (t : List ℕ) → entryIn benchMeasures t (pointIn 0 (pointAt benchSizes m)) (configurationAt benchSizes m) ≡ getD t m 0
+      numbered t = single-numbered benchCell benchRecipe t (pointAt benchSizes m) (configurationAt benchSizes m) m (lacks .number)
 
-      decide : Dec (getD table 1 0 ≡ 0) → getD table 1 0 ≡ 0
+      decide : Dec (getD table m 0 ≡ 0) → getD table m 0 ≡ 0
       decide (yes e) = e
       decide (no some) =
           absurd
-          (bench-planned .zero-lacks _ _ first (numbered benchTable ∙ computed .first-none)
-          (plan .entry-holds _ _ first (λ e. some (sym (numbered table) ∙ e))))
+          (bench-planned .zero-lacks _ _ here (numbered benchTable ∙ lacks .none)
+          (plan .entry-holds _ _ here (λ e. some (sym (numbered table) ∙ e))))
+
+  -- ‡ "entry 1 is 0"
+  pub entry-one : getD table 1 0 ≡ 0
+  entry-one = entry-none 1 (computed .first)
+
+  -- request 8: at position 23 the lane would start empty
+  pub entry-empty-lane : getD table 23 0 ≡ 0
+  entry-empty-lane = entry-none 23 (computed .empty-lane)
 
   -- ‡ "entry 72 is 67108864"
   pub entry-last : getD table 72 0 ≡ 67108864

@@ -14,7 +14,8 @@ use Rattle.positions.specs.Rules.{placeCount, isPosition, placeFits, stateFits}
 use Rattle.steps.specs.Lines.{firstLineOf, linesOf, kindOf, thenOf, elseOf, isTaken, isGiven}
 use Rattle.steps.specs.Limits.{load, keepsLimits, noneOverfull}
 use Rattle.steps.specs.Gates.{gateAmong, gateOf, gated}
-use Rattle.steps.specs.Joint.{mayDo, acts, actsOn, howMany, portFits, isStep, isSilentStep, stateAfter, receiver, handed, placeAfter, after, isSilent}
+use Rattle.steps.specs.Lanes.{isLoaded, laneStarts}
+use Rattle.steps.specs.Joint.{outStarts, mayDo, acts, actsOn, howMany, portFits, isStep, isSilentStep, stateAfter, receiver, handed, placeAfter, after, isSilent}
 use Rattle.steps.specs.Carry.{serves, matches, standsAt, present, free, suits, carries, putThere, placed, partsMoved, afterCarry, isFree}
 use Rattle.steps.specs.Entry.{entryKind, letter, unused, linesUsed, carryLetters, lettersUsed, namesGate, isLine, isFormed, only, stepOf, mayBeTaken}
 use Rattle.steps.specs.Effect.{taken, effect, isMove, opens, leaves, makes, leadsTo}
@@ -47,7 +48,7 @@ unfolding isOf firstBelow anyBelow allBelow countBelow greatestBelow tabulate fi
     inTurn chaptersRules isPositionIn tableRules entryRules rule17 rule18 rule19
     moveRules reportRules nextMove nextPoint nextRun reportOf opened byTable atEnd isOpen refusalOf setTo movedTo lineFollowed configurationAfter pointAfter made
     isAccepted turned noted answer moments answers issuedBy issued refusalIn every agree rightly neverShut
-    everyIssue wasOpen foundParts carriedPoint fewSilent neverOverfull filled benchCell benchRecipe benchEntry benchTable mayDo acts actsOn
+    everyIssue wasOpen foundParts carriedPoint fewSilent neverOverfull filled benchCell benchRecipe benchEntry benchTable isLoaded laneStarts outStarts mayDo acts actsOn
     howMany portFits isStep isSilentStep load keepsLimits noneOverfull gateAmong gateOf gated suits stateAfter receiver handed placeAfter after serves matches
     standsAt present free carries putThere placed partsMoved afterCarry entryKind letter unused linesUsed carryLetters lettersUsed namesGate isLine isFormed only stepOf
     mayBeTaken ifAccepted ofCarries taken effect isMove opens leaves makes leadsTo cell.inRange cell.gap cell.hasNoLine recipe.inRange

@@ -20,7 +20,8 @@ use Rattle.positions.specs.Rules.{placeCount, isPosition, placeFits, stateFits}
 use Rattle.steps.specs.Lines.{firstLineOf, linesOf, kindOf, thenOf, elseOf, isTaken, isGiven}
 use Rattle.steps.specs.Limits.{load, keepsLimits, noneOverfull}
 use Rattle.steps.specs.Gates.{gateAmong, gateOf, gated}
-use Rattle.steps.specs.Joint.{mayDo, acts, actsOn, howMany, portFits, isStep, isSilentStep, stateAfter, receiver, handed, placeAfter, after, isSilent}
+use Rattle.steps.specs.Lanes.{isLoaded, laneStarts}
+use Rattle.steps.specs.Joint.{outStarts, mayDo, acts, actsOn, howMany, portFits, isStep, isSilentStep, stateAfter, receiver, handed, placeAfter, after, isSilent}
 use Rattle.steps.specs.Carry.{serves, matches, standsAt, present, free, suits, carries, putThere, placed, partsMoved, afterCarry, isFree}
 use Rattle.steps.specs.Entry.{entryKind, letter, unused, linesUsed, carryLetters, lettersUsed, namesGate, isLine, isFormed, only, stepOf, mayBeTaken}
 use Rattle.steps.specs.Effect.{taken, effect, isMove, opens, leaves, makes, leadsTo}
@@ -151,7 +152,7 @@ unfolding isOf firstBelow anyBelow allBelow countBelow greatestBelow tabulate fi
     stateNumber placeNumber positionOf stateWeight pointAt stateAt placeAt configurationAt firstLineOf
     linesOf kindOf thenOf elseOf isTaken isGiven entryOf rankOf hasEntry leadsOn closedAt isClosed
     carryEntry filled benchCell wholeRecipe cutFirst cutSecond whole cut firstAlone secondAlone twice
-    wholeTable wholeRanks cutTable cutRanks firstTable firstRanks secondStages twiceStages mayDo acts actsOn howMany portFits isStep
+    wholeTable wholeRanks cutTable cutRanks firstTable firstRanks secondStages twiceStages isLoaded laneStarts outStarts mayDo acts actsOn howMany portFits isStep
     isSilentStep load keepsLimits noneOverfull gateAmong gateOf gated suits stateAfter receiver handed placeAfter after serves matches
     standsAt present free carries putThere placed partsMoved afterCarry entryKind letter unused linesUsed carryLetters lettersUsed
     namesGate isLine isFormed only stepOf mayBeTaken taken effect isMove opens leaves makes leadsTo cell.inRange cell.gap cell.hasNoLine

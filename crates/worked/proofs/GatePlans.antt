@@ -15,7 +15,8 @@ use Rattle.positions.specs.Rules.{recordRules, rule13, checkSizes}
 use Rattle.steps.specs.Lines.{firstLineOf, linesOf, kindOf, thenOf, elseOf, isTaken, isGiven}
 use Rattle.steps.specs.Limits.{load, keepsLimits, noneOverfull}
 use Rattle.steps.specs.Gates.{gateAmong, gateOf, gated}
-use Rattle.steps.specs.Joint.{mayDo, acts, actsOn, howMany, portFits, isStep, isSilentStep, stateAfter, receiver, handed, placeAfter, after, isSilent}
+use Rattle.steps.specs.Lanes.{isLoaded, laneStarts}
+use Rattle.steps.specs.Joint.{outStarts, mayDo, acts, actsOn, howMany, portFits, isStep, isSilentStep, stateAfter, receiver, handed, placeAfter, after, isSilent}
 use Rattle.steps.specs.Carry.{serves, matches, standsAt, present, free, suits, carries, putThere, placed, partsMoved, afterCarry, isFree}
 use Rattle.steps.specs.Entry.{entryKind, letter, unused, linesUsed, carryLetters, lettersUsed, namesGate, isLine, isFormed, only, stepOf, mayBeTaken}
 use Rattle.steps.specs.Effect.{taken, effect, isMove, opens, leaves, makes, leadsTo}
@@ -70,7 +71,7 @@ unfolding isOf firstBelow anyBelow allBelow countBelow greatestBelow tabulate fi
     stateNumber placeNumber positionOf stateWeight pointAt stateAt placeAt configurationAt recordRules rule13 checkSizes firstLineOf
     linesOf kindOf thenOf elseOf isTaken isGiven entryOf rankOf hasEntry leadsOn closedAt isClosed stageOf noMore lower keepsStage
     staysStaged movesStaged carryEntry positionStaged areStages chapterAt formedPass soleAt soleIn filled benchCell benchRecipe benchBehind gateCell
-    againCell againRecipe gateTable gateRanks againTable againRanks leftStages stuckStages mayDo acts actsOn howMany portFits isStep
+    againCell againRecipe gateTable gateRanks againTable againRanks leftStages stuckStages isLoaded laneStarts outStarts mayDo acts actsOn howMany portFits isStep
     isSilentStep load keepsLimits noneOverfull gateAmong gateOf gated suits stateAfter receiver handed placeAfter after serves matches
     standsAt present free carries putThere placed partsMoved afterCarry entryKind letter unused linesUsed carryLetters lettersUsed
     namesGate isLine isFormed only stepOf mayBeTaken taken effect isMove opens leaves makes leadsTo cell.inRange cell.gap cell.hasNoLine

@@ -21,7 +21,8 @@ use Rattle.positions.specs.Rules.{recordRules, rule13, checkSizes}
 use Rattle.steps.specs.Lines.{firstLineOf, linesOf, kindOf, thenOf, elseOf, isTaken, isGiven}
 use Rattle.steps.specs.Limits.{load, keepsLimits, noneOverfull}
 use Rattle.steps.specs.Gates.{gateAmong, gateOf, gated}
-use Rattle.steps.specs.Joint.{mayDo, acts, actsOn, howMany, portFits, isStep, isSilentStep, stateAfter, receiver, handed, placeAfter, after, isSilent}
+use Rattle.steps.specs.Lanes.{isLoaded, laneStarts}
+use Rattle.steps.specs.Joint.{outStarts, mayDo, acts, actsOn, howMany, portFits, isStep, isSilentStep, stateAfter, receiver, handed, placeAfter, after, isSilent}
 use Rattle.steps.specs.Carry.{serves, matches, standsAt, present, free, suits, carries, putThere, placed, partsMoved, afterCarry, isFree}
 use Rattle.steps.specs.Entry.{entryKind, letter, unused, linesUsed, carryLetters, lettersUsed, namesGate, isLine, isFormed, only, stepOf, mayBeTaken}
 use Rattle.steps.specs.Effect.{taken, effect, leadsTo}
@@ -114,7 +115,7 @@ unfolding isOf firstBelow anyBelow allBelow countBelow greatestBelow tabulate fi
     without otherFeeding otherTesting otherEnding allOthers idleFeeding idleBehind testingLines feedingLines turnedCell turnedRecipe
     turningLines otherTurning singleCell singleRecipe singleLines fullCell sameLine withLine withLines testingTable feedingTable
     handRanks feedingStages testingStages endingStages togetherTable idleStages firstStages stayingTable leavingTable turnedStages
-    singleTable mayDo acts actsOn howMany portFits isStep isSilentStep load keepsLimits noneOverfull gateAmong gateOf gated suits stateAfter receiver handed
+    singleTable isLoaded laneStarts outStarts mayDo acts actsOn howMany portFits isStep isSilentStep load keepsLimits noneOverfull gateAmong gateOf gated suits stateAfter receiver handed
     placeAfter after serves matches standsAt present free carries putThere placed partsMoved afterCarry entryKind letter unused
     linesUsed carryLetters lettersUsed namesGate isLine isFormed only stepOf mayBeTaken taken effect leadsTo cell.inRange cell.gap cell.hasNoLine recipe.inRange
     recipe.hasUnused farthest isSilent isFree lineVerdict

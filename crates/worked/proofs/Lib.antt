@@ -4,7 +4,7 @@
 -- those of request 2: cells that lack an operation line, the lines that mend them, and the answers of install calls. And those of
 -- request 3: scratches of so many bytes. And those of request 4: points that nothing leads to. And those of request 5: where the
 -- search for marks ends. And those of request 6: records, moves and plans with reject gates. And those of request 7: 24, plans of
--- chapters, and that a recipe by itself is one chapter.
+-- chapters, and that a recipe by itself is one chapter. And those of request 8: lanes that start and lanes that don't.
 mod SingleRecipes
 mod Certificates
 mod LedRecipes
@@ -41,6 +41,9 @@ mod GateMoves
 mod GatePlans
 mod GateCalls
 pub mod GateTable
+mod LaneMoves
+mod LanePlans
+pub mod LaneTable
 mod JointRefusals
 mod FormedEntries
 mod ChapterStages

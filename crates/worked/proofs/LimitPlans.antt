@@ -17,7 +17,8 @@ use Rattle.positions.specs.Rules.{recordRules, rule13, checkSizes, placeCount, 
 use Rattle.steps.specs.Lines.{firstLineOf, linesOf, kindOf, thenOf, elseOf, isTaken, isGiven}
 use Rattle.steps.specs.Limits.{load, keepsLimits, noneOverfull}
 use Rattle.steps.specs.Gates.{gateAmong, gateOf, gated}
-use Rattle.steps.specs.Joint.{mayDo, acts, actsOn, howMany, portFits, isStep, isSilentStep, stateAfter, receiver, handed, placeAfter, after, isSilent}
+use Rattle.steps.specs.Lanes.{isLoaded, laneStarts}
+use Rattle.steps.specs.Joint.{outStarts, mayDo, acts, actsOn, howMany, portFits, isStep, isSilentStep, stateAfter, receiver, handed, placeAfter, after, isSilent}
 use Rattle.steps.specs.Carry.{serves, matches, standsAt, present, free, suits, carries, putThere, placed, partsMoved, afterCarry, isFree}
 use Rattle.steps.specs.Entry.{entryKind, letter, unused, linesUsed, carryLetters, lettersUsed, namesGate, isLine, isFormed, only, stepOf, mayBeTaken}
 use Rattle.steps.specs.Effect.{taken, effect, isMove, opens, leaves, makes, leadsTo}
@@ -87,7 +88,7 @@ unfolding isOf firstBelow anyBelow allBelow countBelow greatestBelow tabulate fi
     placeAt configurationAt recordRules rule13 checkSizes placeCount isPosition firstLineOf linesOf kindOf thenOf elseOf isTaken isGiven
     entryOf rankOf hasEntry leadsOn closedAt isClosed stageOf noMore lower keepsStage staysStaged movesStaged carryEntry positionStaged areStages
     filled limitsOf oneLine glueCell glueRecipe mendCell mendRecipe nestCell nestRecipe twoParts twoHandedOver glueTable glueStages
-    mendTable mendRanks nestTable nestRanks nestStages mayDo acts actsOn howMany portFits isStep isSilentStep load keepsLimits noneOverfull gateAmong gateOf gated
+    mendTable mendRanks nestTable nestRanks nestStages isLoaded laneStarts outStarts mayDo acts actsOn howMany portFits isStep isSilentStep load keepsLimits noneOverfull gateAmong gateOf gated
     suits stateAfter receiver handed placeAfter after serves matches standsAt present free carries putThere placed partsMoved afterCarry
     entryKind letter unused linesUsed carryLetters lettersUsed namesGate isLine isFormed only stepOf mayBeTaken taken effect isMove opens leaves makes leadsTo cell.inRange
     cell.gap cell.hasNoLine recipe.inRange recipe.hasUnused farthest stateFits placeFits isSilent isFree lineVerdict

@@ -19,7 +19,8 @@ use Rattle.positions.specs.Position.{stateNumber, placeNumber, positionOf, stat
 use Rattle.steps.specs.Lines.{firstLineOf, linesOf, kindOf, thenOf, elseOf, isTaken, isGiven}
 use Rattle.steps.specs.Limits.{load, keepsLimits, noneOverfull}
 use Rattle.steps.specs.Gates.{gateAmong, gateOf, gated}
-use Rattle.steps.specs.Joint.{mayDo, acts, actsOn, howMany, portFits, isStep, isSilentStep, stateAfter, receiver, handed, placeAfter, after, isSilent}
+use Rattle.steps.specs.Lanes.{isLoaded, laneStarts}
+use Rattle.steps.specs.Joint.{outStarts, mayDo, acts, actsOn, howMany, portFits, isStep, isSilentStep, stateAfter, receiver, handed, placeAfter, after, isSilent}
 use Rattle.steps.specs.Carry.{serves, matches, standsAt, present, free, suits, carries, putThere, placed, partsMoved, afterCarry, isFree}
 use Rattle.steps.specs.Entry.{entryKind, letter, unused, linesUsed, carryLetters, lettersUsed, namesGate, isLine, isFormed, only, stepOf, mayBeTaken}
 use Rattle.steps.specs.Effect.{taken, effect, isMove, opens, leaves, makes, leadsTo}
@@ -29,7 +30,7 @@ use Rattle.simulation.specs.Plan.{Planned}
 use Rattle.planner.specs.Call.{checkPlan, PlanCall}
 use Rattle.worked.specs.Moves.{filled, benchCell, benchRecipe, benchSizes, benchMeasures, benchEntry, benchTable, benchRanks}
 use Rattle.worked.specs.Plans.{deadRecipe, endRecipe}
-use Rattle.worked.proofs.BenchPlan.{computed, bench-planned, entry-one, entry-last, dead-recipe, one-end}
+use Rattle.worked.proofs.BenchPlan.{computed, bench-planned, entry-one, entry-empty-lane, entry-last, dead-recipe, one-end}
 use Rattle.worked.proofs.Certificates.{entry-greatest}
 use Rattle.worked.proofs.LedRecipes.{led-recipes}
 use Rattle.worked.proofs.LentLengths.{check-passes, short-refused, short-untouched, call-accepts, call-refuses}
@@ -54,7 +55,7 @@ soles : Sole
 unfolding isOf firstBelow anyBelow allBelow countBelow greatestBelow tabulate cell.greatestResource cell.alike recipe.holdsPart recipe.pointCount
     sumBelow productBelow stateCount stateCounts partsIn partCount jointCount sizesFor stateNumber placeNumber positionOf stateWeight
     pointAt stateAt placeAt configurationAt firstLineOf linesOf kindOf thenOf elseOf isTaken isGiven chapterAt formedPass soleAt soleIn carryEntry entryOf filled benchCell
-    benchRecipe benchEntry benchTable deadRecipe endRecipe mayDo acts actsOn howMany portFits isStep isSilentStep load keepsLimits
+    benchRecipe benchEntry benchTable deadRecipe endRecipe isLoaded laneStarts outStarts mayDo acts actsOn howMany portFits isStep isSilentStep load keepsLimits
     noneOverfull gateAmong gateOf gated suits stateAfter receiver handed placeAfter after serves matches standsAt present free carries putThere placed partsMoved
     afterCarry entryKind letter unused linesUsed carryLetters lettersUsed namesGate isLine isFormed only stepOf mayBeTaken taken effect isMove opens leaves makes leadsTo
     farthest isSilent isFree
@@ -126,6 +127,10 @@ module _ (table scratch table′ scratch′ : List ℕ) (verdict : Verdict) wher
             entry-72 = entry-last table table′ (call .refused) plan;
             entry-1 = entry-one table table′ (call .refused) plan;
           }
+
+      -- request 8: no entry where the lane would start empty
+      pub lane-called : getD table′ 23 0 ≡ 0
+      lane-called = entry-empty-lane table table′ (call .refused) plan
 
       -- a planner that "answers 15 always" does not keep the contract
       pub not-always-15 : verdict ≡ Refused NotRealisable 0 → ⊥

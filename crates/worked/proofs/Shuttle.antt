@@ -18,7 +18,8 @@ use Rattle.positions.specs.Rules.{recordRules, rule13, checkSizes, placeCount, 
 use Rattle.steps.specs.Lines.{firstLineOf, linesOf, kindOf}
 use Rattle.steps.specs.Limits.{load, keepsLimits, noneOverfull}
 use Rattle.steps.specs.Gates.{gateAmong, gateOf, gated}
-use Rattle.steps.specs.Joint.{mayDo, acts, actsOn, howMany, portFits, isStep, isSilentStep, stateAfter, receiver, handed, placeAfter, after, isSilent}
+use Rattle.steps.specs.Lanes.{isLoaded, laneStarts}
+use Rattle.steps.specs.Joint.{outStarts, mayDo, acts, actsOn, howMany, portFits, isStep, isSilentStep, stateAfter, receiver, handed, placeAfter, after, isSilent}
 use Rattle.steps.specs.Carry.{serves, matches, standsAt, present, free, suits, carries, putThere, placed, partsMoved, afterCarry, isFree}
 use Rattle.steps.specs.Entry.{entryKind, letter, unused, linesUsed, carryLetters, lettersUsed, namesGate, isLine, isFormed, only, stepOf, mayBeTaken}
 use Rattle.steps.specs.Effect.{taken, effect, isMove, opens, leaves, makes, leadsTo}
@@ -62,7 +63,7 @@ unfolding isOf firstBelow anyBelow allBelow countBelow greatestBelow tabulate fi
     recipe.common recipe.sharesPart recipe.rule11 recipe.pointCount recipe.leadsOut recipe.rule12 recipe.recipeRules sumBelow productBelow
     stateCount stateCounts partsIn partCount jointCount sizesFor stateNumber placeNumber positionOf recordRules rule13 checkSizes placeCount
     isPosition firstLineOf linesOf kindOf opened byTable atEnd isOpen refusalOf setTo movedTo lineFollowed configurationAfter pointAfter made isAccepted
-    turned noted moments every fewSilent chapterAt isEarlier landing thenAt elseAt pointsAt chapters.partsIn sizesIn begins positionIn entryIn entryOf filled laneCell laneRecipe shuttleTable madePart mayDo acts actsOn howMany portFits isStep
+    turned noted moments every fewSilent chapterAt isEarlier landing thenAt elseAt pointsAt chapters.partsIn sizesIn begins positionIn entryIn entryOf filled laneCell laneRecipe shuttleTable madePart isLoaded laneStarts outStarts mayDo acts actsOn howMany portFits isStep
     isSilentStep load keepsLimits noneOverfull gateAmong gateOf gated suits stateAfter receiver handed placeAfter after serves matches standsAt present free
     carries putThere placed partsMoved afterCarry entryKind letter unused linesUsed carryLetters lettersUsed namesGate isLine isFormed only stepOf mayBeTaken taken effect
     isMove opens leaves makes leadsTo cell.inRange cell.gap cell.hasNoLine recipe.inRange recipe.hasUnused farthest stateWeight stateFits

@@ -34,9 +34,9 @@ pub record Table : Type 0 where
   pub of-moves : Moves
   pub of-limit : Limit
   pub of-calls : Promises benchCell (benchRecipe ∷ []) benchMeasures benchTable firstPoint start benchCalls
-  -- the bench example's table is a plan, so that its 25 entries stand exactly at the positions of the greatest simulation
+  -- the bench example's table is a plan, so that its 24 entries stand exactly at the positions of the greatest simulation
   pub of-plan : Planned benchCell (benchRecipe ∷ []) benchMeasures benchTable benchTable false
-  pub of-positions : countBelow (λ m. not (eqb (getD benchTable m 0) 0)) 90 ≡ 25
+  pub of-positions : countBelow (λ m. not (eqb (getD benchTable m 0) 0)) 90 ≡ 24
   -- ‡ the four moves and the entries 72 and 1, in every table that a plan call leaves; "12 pass"
   pub of-bench-calls :
       (table scratch table′ scratch′ : List ℕ) (verdict : Verdict)

@@ -13,4 +13,5 @@ pub mod Gated
 pub mod GatedPlans
 pub mod Chaptered
 pub mod ChapteredPlans
+pub mod Laned
 pub mod OneRecipe

@@ -67,7 +67,7 @@ next = nextIn benchCell benchRecipe
 unfoldable pub benchEntry : ℕ → ℕ
 benchEntry m =
     cond (eqb m 0) 50331648
-    (cond (eqb m 22 || eqb m 23) 33554561
+    (cond (eqb m 22) 33554561
     (cond (eqb m 26) 50331843 (cond (eqb m 50 || (eqb m 53 || eqb m 68)) 50331652 (cond (leb 72 m) 67108864 0))))
 
 -- a table of M entries that holds them
@@ -76,7 +76,7 @@ benchTable = tabulate 90 benchEntry
 
 -- and how many silent moves each is away from a carry
 unfoldable pub benchRanks : List ℕ
-benchRanks = tabulate 90 (λ m. cond (eqb m 22 || eqb m 23) 1 0)
+benchRanks = tabulate 90 (λ m. cond (eqb m 22) 1 0)
 
 -- "R 3, four states each": three stations, of which the first goes to the given state and the others to 3
 unfoldable pub limitCell : ℕ → Cell
