@@ -31,6 +31,10 @@
  * the same from and arg share the act 4 line. Nothing else takes an act 4 line, and a do follows act 1
  * lines alone. An act 4 line counts as a line of its resource, also for its number of states.
  *
+ * The arg of an in and of an out is its port, from 0 to 63. The lanes in ports 0 to 31 are loaded: they have a
+ * photocell and won't start empty, so that an out there is taken only if its own resource holds at least one
+ * part before the step. Ports 32 to 63 move empty pallets too. What the in's resource holds does not matter.
+ *
  * A run has CELLPLAN_RUN_BYTES bytes: the point, the states of the resources 0 to 5, the places of the
  * parts 0 to 7, the chapter, of whose points the point is one. A place is 0 outside the cell and k + 1 at
  * resource k. Resources and parts that aren't there have 0. A run that was kept before there were chapters
@@ -57,7 +61,9 @@
  *     kind 4  the run is at an end; no letter is used. A planned table has it at an end of an earlier
  *             chapter exactly if point 0 of the next has an entry other than 0 in the same states and places.
  * A table that was made before there was an act 4 has b = 0 in the entries of tests. For a recipe with
- * tests it must be planned again: such an entry gets 18, unless a is line 0 and has no act 4 line.
+ * tests it must be planned again: such an entry gets 18, unless a is line 0 and has no act 4 line. One that
+ * was made before lanes were loaded may have entries of kind 2 that would start a loaded lane empty; these
+ * get 18, and all others are as good as before.
  *
  * A reader's result is 0 if the file is accepted, else
  *     refusal + 256 * line.
@@ -104,7 +110,8 @@
  *     17  Report: the outcome is above 1.
  *     18  Run: the entry isn't a move open here, 0 included, or not in the stated form. A move of kind
  *         1, 2 or 3 is open only if no resource holds more parts than its limit after it; what one held
- *         before doesn't matter.
+ *         before doesn't matter. A move of kind 2 through a port from 0 to 31 is open only if the out's
+ *         resource holds a part before it.
  *     19  Report: the run is at an end, be it of the last chapter or of an earlier one. A run comes to an
  *         earlier one only if it is handed in there, for what leads to it lands on the next chapter.
  * A call that is handed recipes tries 24 for their number; then the cell's rules from 3 on; then, chapter by

@@ -28,42 +28,44 @@ use Rattle.steps.specs.Effect.{taken, effect, isMove, opens, leaves, makes, lea
 use Rattle.steps.proofs.EntryForms.{carryEntry}
 use Rattle.simulation.proofs.ClosedTableTest.{rankOf, hasEntry, leadsOn, closedAt, isClosed}
 use Rattle.simulation.proofs.StageTest.{stageOf, noMore, lower, keepsStage, staysStaged, movesStaged, positionStaged, areStages}
+use Rattle.simulation.specs.Simulation.{Realisable}
 use Rattle.planner.specs.Call.{PlanCall}
 use Rattle.worked.specs.Moves.{filled}
 use Rattle.worked.specs.Installed.{singleRecipe}
-use Rattle.worked.specs.Laned.{palletCell, palletTable, palletRanks, palletStages}
+use Rattle.worked.specs.InstalledPlans.{firstStages}
+use Rattle.worked.specs.Laned.{palletCell, palletTable, palletRanks}
 use Rattle.worked.proofs.LedRecipes.{led-recipes}
 use Rattle.worked.proofs.LentLengths.{call-accepts, call-refuses}
 use Rattle.worked.proofs.Certificates.{closed-realisable, staged-unrealisable}
 
-abbrev palletSizes : ℕ → Sizes
+abbrev pub palletSizes : ℕ → Sizes
 palletSizes port = sizesOf (palletCell port) (singleRecipe 1)
 
 -- the rules before 13 pass with the port between the stations
-record Sized (port : ℕ) : Type 0 where
-  checked : checkSizes (palletCell port) (singleRecipe 1) ≡ Accepted
-  positions : palletSizes port .positions ≡ 24
+pub record Sized (port : ℕ) : Type 0 where
+  pub checked : checkSizes (palletCell port) (singleRecipe 1) ≡ Accepted
+  pub positions : palletSizes port .positions ≡ 24
 
 -- the pallet comes, and the part is put on it
-record Comes (port : ℕ) : Type 0 where
-  sized : Sized port
+pub record Comes (port : ℕ) : Type 0 where
+  pub sized : Sized port
   closed : isClosed (palletCell port) (singleRecipe 1) (palletSizes port) palletTable palletRanks ≡ true
   begun : entryOf (palletSizes port) palletTable 0 start ≡ 33554496
 
 -- it does not
 record Stays (port : ℕ) : Type 0 where
   sized : Sized port
-  staged : areStages (palletCell port) (singleRecipe 1) (palletSizes port) palletStages ≡ true
-  begun : stageOf (palletSizes port) palletStages 0 start ≡ 1
+  staged : areStages (palletCell port) (singleRecipe 1) (palletSizes port) (firstStages 24) ≡ true
+  begun : stageOf (palletSizes port) (firstStages 24) 0 start ≡ 1
 
 -- what is computed
-record Computed : Type 0 where
+pub record Computed : Type 0 where
   through-5 : Stays 5
   through-31 : Stays 31
-  through-32 : Comes 32
+  pub through-32 : Comes 32
   through-40 : Comes 40
 
-computed : Computed
+pub computed : Computed
 unfolding isOf firstBelow anyBelow allBelow countBelow greatestBelow tabulate firstRefusal firstLine noLine rule3 cell.leavesRange
     cell.rule4 cell.greatestResource cell.rule5 cell.otherAct cell.partner cell.unpaired cell.limitInRange cell.limitLeavesRange
     cell.rule4Limits cell.rule6 cell.limitsAbsent cell.rule20 cell.alike cell.stray cell.rule23 cell.cellRules recipe.leavesRange
@@ -72,7 +74,7 @@ unfolding isOf firstBelow anyBelow allBelow countBelow greatestBelow tabulate fi
     recipe.rule12 recipe.recipeRules sumBelow productBelow stateCount stateCounts partsIn partCount jointCount sizesFor start
     stateNumber placeNumber positionOf stateWeight pointAt stateAt placeAt configurationAt recordRules rule13 checkSizes firstLineOf
     linesOf kindOf thenOf elseOf isTaken isGiven entryOf rankOf hasEntry leadsOn closedAt isClosed stageOf noMore lower keepsStage
-    staysStaged movesStaged carryEntry positionStaged areStages filled singleRecipe palletCell palletTable palletRanks palletStages isLoaded laneStarts outStarts mayDo acts actsOn howMany portFits isStep
+    staysStaged movesStaged carryEntry positionStaged areStages filled singleRecipe firstStages palletCell palletTable palletRanks isLoaded laneStarts outStarts mayDo acts actsOn howMany portFits isStep
     isSilentStep load keepsLimits noneOverfull gateAmong gateOf gated suits stateAfter receiver handed placeAfter after serves matches
     standsAt present free carries putThere placed partsMoved afterCarry entryKind letter unused linesUsed carryLetters lettersUsed
     namesGate isLine isFormed only stepOf mayBeTaken taken effect isMove opens leaves makes leadsTo cell.inRange cell.gap cell.hasNoLine
@@ -94,18 +96,21 @@ Answers port answer =
     → 3 ≤ length scratch
     → verdict ≡ answer
 
+pub comes-realisable : (port : ℕ) → Comes port → Realisable (palletCell port) (singleRecipe 1 ∷ [])
+comes-realisable port C =
+    closed-realisable (palletCell port) (singleRecipe 1) (C .sized .checked) palletTable palletRanks (C .closed)
+    (λ none. omega (arith, C .begun, none))
+
 accepts : (port : ℕ) → Comes port → Answers port Accepted
 accepts port C table scratch table′ scratch′ verdict call long wide =
     call-accepts (palletCell port) (singleRecipe 1) (C .sized .checked) (led-recipes .single 1) table scratch table′ scratch′ verdict call
-    (omega (arith, C .sized .positions)) (omega (arith, C .sized .positions))
-    (closed-realisable (palletCell port) (singleRecipe 1) (C .sized .checked) palletTable palletRanks (C .closed)
-    (λ none. omega (arith, C .begun, none)))
+    (omega (arith, C .sized .positions)) (omega (arith, C .sized .positions)) (comes-realisable port C)
 
 refuses : (port : ℕ) → Stays port → Answers port (Refused NotRealisable 0)
 refuses port S table scratch table′ scratch′ verdict call long wide =
     call-refuses (palletCell port) (singleRecipe 1) (S .sized .checked) (led-recipes .single 1) table scratch table′ scratch′ verdict call
     (omega (arith, S .sized .positions)) (omega (arith, S .sized .positions))
-    (staged-unrealisable (palletCell port) (singleRecipe 1) (S .sized .checked) palletStages (S .staged) (omega (arith, S .begun)))
+    (staged-unrealisable (palletCell port) (singleRecipe 1) (S .sized .checked) (firstStages 24) (S .staged) (omega (arith, S .begun)))
 
 pub refused-5 : Answers 5 (Refused NotRealisable 0)
 refused-5 = refuses 5 (computed .through-5)

@@ -43,6 +43,7 @@ mod GateCalls
 pub mod GateTable
 mod LaneMoves
 mod LanePlans
+mod LaneInstalls
 pub mod LaneTable
 mod JointRefusals
 mod FormedEntries

@@ -3,12 +3,14 @@ use mathlib.Core.Bool.{cond}
 use mathlib.Core.List.{List, [], _∷_}
 use Prim.Native.Nat.{ℕ}
 use lib.ListN.{replicate}
-use lib.Dec.{eqb}
+use lib.Dec.{eqb, leb}
 use Rattle.refusals.specs.Search.{tabulate}
 use Rattle.cell.specs.declared.Cell.{Cell}
+use Rattle.cell.specs.declared.OperationLine.{OperationLine}
 use Rattle.cell.specs.Reader.{noLimits}
 use Rattle.positions.specs.declared.Configuration.{Configuration}
 use Rattle.worked.specs.Moves.{filled, benchEntry}
+use Rattle.worked.specs.Installed.{line}
 
 -- the bench cell with another port between its stations
 unfoldable pub benchThrough : ℕ → Cell
@@ -51,6 +53,14 @@ palletTable = tabulate 24 (λ m. cond (eqb m 0) 33554496 (cond (eqb m 9) 5033165
 unfoldable pub palletRanks : List ℕ
 palletRanks = tabulate 24 (λ m. cond (eqb m 0) 1 0)
 
--- where it does not, no move is open at 0
-unfoldable pub palletStages : List ℕ
-palletStages = tabulate 24 (λ m. cond (eqb m 0) 1 0)
+-- where it does not, the lines of which each alone would do without it: the operation from a state in which a station starts
+unfoldable pub palletLines : List OperationLine
+palletLines = line 0 0 1 0 ∷ line 0 0 1 1 ∷ line 1 0 1 0 ∷ line 1 0 1 1 ∷ []
+
+-- with such a line as line 3 the part is put at 0, which is an end at once
+unfoldable pub putTable : List ℕ
+putTable = tabulate 24 (λ m. cond (eqb m 0) 50331651 (cond (leb 12 m) 67108864 0))
+
+-- and the other candidates, from states to which nothing leads
+unfoldable pub otherPallets : List OperationLine
+otherPallets = line 0 1 1 0 ∷ line 0 1 1 1 ∷ line 1 1 1 0 ∷ []
