@@ -335,6 +335,24 @@ mod tests {
     }
 
     #[test]
+    fn the_book_moves_no_empty_pallet_through_a_photocell() {
+        let (cell, joined) = only_chapter(bench());
+        let mut table = bench_table();
+        table[23] = 33_554_561;
+        let mut book = Book::from_position(&cell, &joined, &table, 23);
+        let before = book.run();
+        assert_eq!(book.next_move().refusal, 18);
+        for (outcome, refusal) in [(0, 18), (1, 18), (2, 17)] {
+            let report = book.report(outcome);
+            assert_eq!((report.refusal, report.run), (refusal, before));
+        }
+        assert_eq!(book.silent_moves(), 0);
+        // Where the part is at the giver, it goes along.
+        let mut book = Book::from_position(&cell, &joined, &table, 22);
+        assert_eq!(book.report(0).run.configuration.places[0], 2);
+    }
+
+    #[test]
     fn silent_moves_are_counted_until_a_carry() {
         let (cell, joined) = only_chapter(bench());
         let table = bench_table();

@@ -32,6 +32,9 @@ pub(crate) const OUT: u8 = 3;
 /// Where a test's outcome 0 ends; its outcome 1, and a do, end where the operation line says.
 pub(crate) const GATE: u8 = 4;
 
+/// So many ports, from 0 on, have a photocell: what hands over through them won't start empty.
+pub const PHOTOCELLS: u8 = 32;
+
 /// The value lines of a cell file, an array for each column, and the most parts that each resource may
 /// hold. What stands past `count` lines counts for nothing.
 #[derive(Clone, Debug, PartialEq, Eq)]
@@ -84,6 +87,11 @@ impl Cell {
     fn begin_alike(&self, one: usize, other: usize) -> bool {
         let begin = |n: usize| (self.resource[n], self.from[n], self.arg[n]);
         begin(one) == begin(other)
+    }
+
+    /// Whether a line hands over through a port with a photocell.
+    pub fn is_loaded_lane(&self, line: usize) -> bool {
+        self.act[line] == OUT && self.arg[line] < PHOTOCELLS
     }
 
     /// Whether some line of the cell is a gate.

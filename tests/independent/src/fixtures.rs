@@ -151,21 +151,22 @@ pub(crate) fn limit_with_a_fifth_state() -> (Cell, Recipe) {
 }
 
 /// Three stations and a pallet lane, with every kind of move: parallel dos in which one line takes
-/// what the other gives, a rework loop, and transfers of several parts.
+/// what the other gives, a rework loop, and transfers of several parts. On the way back alone the pallet may
+/// be empty.
 pub(crate) fn lane() -> (Cell, Recipe) {
     let cell = cell_of(&[
         "0,0,1,7,1",
         "0,1,3,2,0",
         "0,1,0,9,0",
         "1,0,2,2,1",
-        "1,1,3,3,0",
+        "1,1,3,31,0",
         "1,0,1,7,1",
         "1,1,1,8,1",
-        "2,0,2,3,1",
+        "2,0,2,31,1",
         "2,0,1,7,0",
         "2,1,1,8,1",
-        "2,1,3,4,0",
-        "0,0,2,4,1",
+        "2,1,3,32,0",
+        "0,0,2,32,1",
     ]);
     let recipe = recipe_of(&[
         "0,1,7,0,1,1,0",

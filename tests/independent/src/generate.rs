@@ -1,13 +1,14 @@
 //! Cells and recipes that fit each other, many of which are realisable. A recipe is written along a
 //! walk through its cell, so that there is a way for it, and a further chapter along a walk that goes on where
-//! the one before ended; then some are damaged in a place or more. There are cells with limits and without, and
-//! more than a third of them have gates. One recipe in ten has points that are not reached from point 0, the
-//! others have none.
+//! the one before ended; then some are damaged in a place or more. There are cells with limits and without, more
+//! than a third of them have gates, and more than a third have lanes that won't start empty. One recipe in ten
+//! has points that are not reached from point 0, the others have none.
 
 mod cell_lines;
 mod chains;
 mod cut;
 mod great;
+mod lanes;
 mod walk;
 
 pub use chains::chain_pair;
@@ -15,8 +16,9 @@ pub use cut::{cut, Cut};
 pub use great::{
     dense_pair, gap_pair, long_ways_pair, mixed_pair, odometer_pair, stations_reversed, with_gates,
 };
+pub use lanes::{with_photocells, without_photocells};
 
-use crate::cell::{cell_bytes, cell_of_bytes, Cell, GATE, NO_LIMIT};
+use crate::cell::{cell_bytes, cell_of_bytes, Cell, GATE, IN, NO_LIMIT, OUT, PHOTOCELLS};
 use crate::chapters::check;
 use crate::joined::Joined;
 use crate::random::Random;
@@ -49,6 +51,8 @@ const FORGETFUL: usize = 10;
 struct Extras {
     limits: bool,
     gates: bool,
+    /// More lanes than chance gives it, and unless it is wide two stations that have states to choose from.
+    lanes: bool,
 }
 
 /// A cell without limits and a recipe, of at most this many positions, 50 or more, that pass the rules
@@ -96,7 +100,12 @@ fn chapters(
     let forgets = random.once_in(FORGETFUL);
     // Not every cell has an operation at which there can be a gate, and some lose theirs.
     let gates = random.choose(&[true, true, false, false]);
-    let extras = Extras { limits, gates };
+    let extras = Extras {
+        limits,
+        gates,
+        // The smallest pairs have no room for the states that they want.
+        lanes: random.once_in(3) && most_positions >= 120,
+    };
     let is_wanted = |chapters: &[Recipe]| chapters.iter().all(every_point_is_reached) != forgets;
     let likely = loop {
         let lines = likely_lines(most_positions, extras, count, random);
@@ -131,7 +140,7 @@ impl Lines {
 }
 
 /// The lines of a cell and of chapters for which there is a way, unless their points were too few or the
-/// limits or the gates were not looked at.
+/// limits, the gates or the photocells were not looked at.
 fn likely_lines(most_positions: u64, extras: Extras, count: usize, random: &mut Random) -> Lines {
     let only_ends = random.below(40);
     let mut tries = 0;
@@ -149,6 +158,9 @@ fn likely_lines(most_positions: u64, extras: Extras, count: usize, random: &mut 
         let mut looked_at = limited_cell(&cell, looked_at);
         if extras.gates && random.once_in(3) {
             looked_at = without_gates(&looked_at);
+        }
+        if random.once_in(3) {
+            looked_at = without_photocells(&looked_at);
         }
         let chapters = likely_chapter_lines(&looked_at, &shape, count, only_ends, random);
         tries += 1;
@@ -230,14 +242,18 @@ fn end_lines(only_ends: usize, shape: &Shape) -> Vec<RecipeLine> {
     }
 }
 
-/// A shape, with limits one of several parts, as one alone fills no station past its limit, and with gates
-/// one in which most stations have states to choose from.
+/// A shape, with limits one of several parts, as one alone fills no station past its limit, with gates one in
+/// which most stations have states to choose from, and with lanes one of two such stations at least, or a wide one.
 fn likely_shape(most_positions: u64, extras: Extras, random: &mut Random) -> Shape {
     loop {
         let shape = Shape::new(most_positions, random);
         let several = shape.states.iter().filter(|&&count| count > 1).count();
         let choose = 3 * several >= 2 * shape.states.len();
-        if (shape.parts > 1 || !extras.limits) && (choose || !extras.gates) {
+        let has_lanes = shape.wide || several > 1;
+        if (shape.parts > 1 || !extras.limits)
+            && (choose || !extras.gates)
+            && (has_lanes || !extras.lanes)
+        {
             return shape;
         }
     }
@@ -324,7 +340,8 @@ impl Shape {
 }
 
 impl Lines {
-    /// The same with up to three lines changed or left out, or limits lowered, or other ends of gates.
+    /// The same with up to three lines changed or left out, or limits lowered, or other ends of gates, or lanes
+    /// that get a photocell or lose theirs.
     fn damaged(mut self, extras: Extras, random: &mut Random) -> Lines {
         let Lines {
             cell,
@@ -341,6 +358,10 @@ impl Lines {
             let recipe_line = random.below(recipe.len());
             if extras.gates && random.once_in(3) {
                 turn_gate(cell, random);
+                continue;
+            }
+            if random.once_in(6) {
+                turn_lane(cell, random);
                 continue;
             }
             if extras.limits && random.once_in(2) {
@@ -367,6 +388,19 @@ fn turn_gate(cell: &mut [CellLine], random: &mut Random) {
     let gates: Vec<usize> = (0..cell.len()).filter(|&n| cell[n][2] == GATE).collect();
     if !gates.is_empty() {
         cell[random.choose(&gates)][4] = random.below(4) as u8;
+    }
+}
+
+/// Moves some lane, if there is one, to the other side of the last port with a photocell.
+fn turn_lane(cell: &mut [CellLine], random: &mut Random) {
+    let outs: Vec<usize> = (0..cell.len()).filter(|&n| cell[n][2] == OUT).collect();
+    if outs.is_empty() {
+        return;
+    }
+    let port = cell[random.choose(&outs)][3];
+    let on_port = |line: &&mut CellLine| matches!(line[2], IN | OUT) && line[3] == port;
+    for line in cell.iter_mut().filter(on_port) {
+        line[3] = (port + PHOTOCELLS) % (2 * PHOTOCELLS);
     }
 }
 
@@ -430,7 +464,7 @@ fn recipe_of_lines(lines: &[RecipeLine]) -> Recipe {
 #[cfg(test)]
 mod tests {
     use super::*;
-    use crate::entry::{kind_of, makes, TRANSFER};
+    use crate::entry::{kind_of, letters_of, makes, TRANSFER};
     use crate::fixtures::{limited, planned, planned_chapters};
     use crate::limits::is_overfull;
     use crate::recipe::TEST;
@@ -671,6 +705,75 @@ mod tests {
             println!("{pairs} pairs: {counts:?}");
             assert!(3 * cells >= pairs && 3 * realisable >= cells, "{counts:?}");
             assert!(6 * used >= cells && 40 * gained >= cells && 100 * lost >= cells);
+        }
+    }
+
+    /// How often lanes are there and matter, among pairs.
+    #[derive(Debug, Default)]
+    struct Laned {
+        /// Cells with a lane that won't start empty, and with one that will.
+        guarded: usize,
+        free: usize,
+        /// The planned moves from the start hand over nothing in some transfer.
+        empty: usize,
+        /// Realisable, but not with photocells everywhere.
+        needed: usize,
+        /// Not realisable, but without photocells.
+        lost: usize,
+        /// Realisable, but some position is lost to the photocells.
+        narrowed: usize,
+    }
+
+    /// Whether the planned moves from the start have a transfer among them whose giver holds nothing.
+    fn moves_an_empty_pallet(cell: &Cell, recipe: &Recipe, table: &[u32]) -> bool {
+        let sizes = Sizes::of(cell, recipe);
+        let met = met_from_start(cell, recipe, table);
+        met.iter().any(|&position| {
+            let entry = table[position as usize];
+            let giver = cell.resource[letters_of(entry)[0]];
+            let places = sizes.at(position).1.places;
+            kind_of(entry) == TRANSFER && !places.contains(&(giver + 1))
+        })
+    }
+
+    impl Laned {
+        fn add(&mut self, cell: &Cell, recipe: &Recipe) {
+            let outs = (0..usize::from(cell.count)).filter(|&n| cell.act[n] == OUT);
+            let guarded = |n: usize| cell.is_loaded_lane(n);
+            self.guarded += usize::from(outs.clone().any(guarded));
+            self.free += usize::from(outs.clone().any(|n| !guarded(n)));
+            let (refusal, table) = planned(cell, recipe);
+            let (without, free_table) = planned(&without_photocells(cell), recipe);
+            let (with, _) = planned(&with_photocells(cell), recipe);
+            let moves_empty = moves_an_empty_pallet(cell, recipe, &table);
+            self.empty += usize::from(refusal == 0 && moves_empty);
+            self.needed += usize::from(refusal == 0 && with == 15);
+            self.lost += usize::from(refusal == 15 && without == 0);
+            self.narrowed += usize::from(refusal == 0 && table != free_table);
+        }
+    }
+
+    #[test]
+    fn lanes_start_empty_or_do_not_and_many_of_them_matter() {
+        for (most_positions, pairs, seed) in [(400, 3000, 37), (20_000, 600, 38)] {
+            let mut random = Random(seed);
+            let mut counts = Laned::default();
+            for n in 0..pairs {
+                let pair = [likely_pair, limited_pair][n % 2];
+                let (cell, recipe) = pair(most_positions, &mut random);
+                counts.add(&cell, &recipe);
+            }
+            let Laned {
+                guarded,
+                free,
+                empty,
+                needed,
+                lost,
+                narrowed,
+            } = counts;
+            assert!(3 * guarded > pairs && 3 * free > pairs, "{counts:?}");
+            assert!(40 * empty > pairs && 40 * needed > pairs, "{counts:?}");
+            assert!(80 * lost > pairs && 15 * narrowed > pairs, "{counts:?}");
         }
     }
 

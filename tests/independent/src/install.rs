@@ -261,6 +261,25 @@ mod tests {
     }
 
     #[test]
+    fn a_process_that_waits_for_an_empty_pallet_needs_a_lane_that_starts() {
+        let recipe = recipe_of(&["0,1,1,0,1,1,0", "1,0,0,0,0,0,0"]);
+        // Neither station does anything yet, and only the pallet's lane turns them.
+        let all = |resource: u8, from: u8| [[resource, from, 1, 0], [resource, from, 1, 1]];
+        let at_once = [all(0, 0), all(1, 0)].concat();
+        let after_it = [all(0, 0), all(0, 1), all(1, 0), all(1, 1)].concat();
+        for (port, expected) in [
+            (5, &at_once),
+            (31, &at_once),
+            (32, &after_it),
+            (40, &after_it),
+        ] {
+            let lane = ["0,0,3", "1,0,2"].map(|line| format!("{line},{port},1"));
+            let cell = cell_of(&[&lane[0], &lane[1]]);
+            assert_eq!(&listed(&cell, &recipe), expected, "port {port}");
+        }
+    }
+
+    #[test]
     fn a_second_station_where_a_nest_is_full() {
         let lines = ["0,0,1,1,0", "1,0,1,3,0"];
         let recipe = recipe_of(&["0,1,1,0,1,1,0", "1,1,1,0,2,2,0", "2,0,0,0,0,0,0"]);

@@ -30,7 +30,7 @@ mod walk;
 pub use book::Book;
 pub use cell::{
     cell_bytes, cell_of_bytes, check_cell, read_cell, Cell, CellReading, CELL_BYTES, CELL_NAMES,
-    NO_LIMIT,
+    NO_LIMIT, PHOTOCELLS,
 };
 pub use chapters::{chapters_bytes, chapters_of_bytes, check, check_to_plan, MOST_CHAPTERS};
 pub use entry::{
@@ -39,7 +39,7 @@ pub use entry::{
 pub use generate::{
     chain_pair, cut, dense_pair, gap_pair, likely_chapters, likely_pair, limited_chapters,
     limited_pair, long_ways_pair, mixed_pair, odometer_pair, stations_reversed, with_gates,
-    without_gates, Cut,
+    with_photocells, without_gates, without_photocells, Cut,
 };
 pub use install::{
     candidates, install, missing_processes, realisable_by_joint_steps, realisable_by_single_moves,

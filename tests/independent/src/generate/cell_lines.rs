@@ -39,7 +39,13 @@ pub(super) fn cell_lines(shape: &Shape, extras: Extras, random: &mut Random) -> 
         let (from, to) = (random.below(states) as u8, random.below(states) as u8);
         lines.push([k as u8, from, act, arg, to]);
     }
-    for _ in 0..random.below(3 * shape.states.len()) {
+    let tries = random.below(3 * shape.states.len());
+    let more = if extras.lanes {
+        2 * shape.states.len()
+    } else {
+        0
+    };
+    for _ in 0..tries + more {
         add_lane(&mut lines[without_lanes..], random);
     }
     if extras.gates {
@@ -70,7 +76,8 @@ fn add_lane(lines: &mut [CellLine], random: &mut Random) {
     if lines[a][0] == lines[b][0] || transfers(&lines[a]) || transfers(&lines[b]) {
         return;
     }
-    let port = random.choose(&[0, 1, 2, 3, 63]);
+    // On both sides of the last port with a photocell.
+    let port = random.choose(&[0, 1, 31, 32, 33, 63]);
     (lines[a][2], lines[b][2]) = (OUT, IN);
     (lines[a][3], lines[b][3]) = (port, port);
 }

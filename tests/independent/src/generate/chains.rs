@@ -3,7 +3,7 @@
 use super::{
     limited_cell, numbered, recipe_of_lines, some_limits, CellLine, RecipeLine, END_LINE, NO_LIMITS,
 };
-use crate::cell::{Cell, GATE, IN, INTERNAL, OPERATION, OUT};
+use crate::cell::{Cell, GATE, IN, INTERNAL, OPERATION, OUT, PHOTOCELLS};
 use crate::random::Random;
 use crate::recipe::{Recipe, DO, TEST};
 use crate::single::check_to_plan;
@@ -79,15 +79,17 @@ impl Chain {
         let count = 2 + random.below(5);
         let mut resources: Vec<u8> = (0..count as u8).collect();
         reorder(&mut resources, random);
-        let ports = random.choose(&[1, 2, 64, 64, 64]);
+        let ports = random.choose(&[1, 2, 32, 32, 32]);
         let mut link = |resource| {
             let mut states: Vec<u8> = (1..random.choose(&[2, 3, 4, 5, 6, 7, 8])).collect();
             reorder(&mut states, random);
             states.insert(0, 0);
+            // Most counts are made with empty pallets. One with a photocell may stop where no part comes.
+            let first = if random.once_in(8) { 0 } else { PHOTOCELLS };
             Link {
                 resource,
                 states,
-                port: random.below(ports) as u8,
+                port: first + random.below(ports) as u8,
             }
         };
         Chain {

@@ -2,7 +2,7 @@
 //! silent ways, and many rounds.
 
 use super::{cell_of_lines, keeping, recipe_of_lines, walk, CellLine, RecipeLine, Shape, END_LINE};
-use crate::cell::{Cell, GATE, IN, INTERNAL, OPERATION, OUT};
+use crate::cell::{Cell, GATE, IN, INTERNAL, OPERATION, OUT, PHOTOCELLS};
 use crate::install::realisable_by_single_moves;
 use crate::random::Random;
 use crate::recipe::{Recipe, DO, TEST};
@@ -14,12 +14,14 @@ use crate::table::MOST_LINES;
 /// every state; five parts that are given, tested and taken.
 pub fn dense_pair() -> (Cell, Recipe) {
     let mut lines: Vec<CellLine> = vec![];
+    // Empty pallets go all but the last way round.
+    let port = |k: u8| if k == 2 { k } else { PHOTOCELLS + k };
     for (k, state) in (0..12).map(|n| (n / 4, n % 4)) {
         let next = (state + 1) % 4;
         lines.push([k, state, OPERATION, state % 2, next]);
         lines.push([k, state, INTERNAL, 0, (state + 2) % 4]);
-        lines.push([k, state, OUT, k, next]);
-        lines.push([k, state, IN, (k + 2) % 3, next]);
+        lines.push([k, state, OUT, port(k), next]);
+        lines.push([k, state, IN, port((k + 2) % 3), next]);
     }
     let mut points: Vec<RecipeLine> = vec![];
     for (point, part) in (0..15).map(|n| (n, 1 << (n % 5))) {
@@ -75,17 +77,20 @@ pub fn gap_pair(lines: usize, silent_moves: usize, random: &mut Random) -> (Cell
     }
 }
 
-/// Any lines of three stations with four states. The more silent moves are wanted for a line, the more
-/// of the lines are internal work, an in or an out.
+/// Any lines of three stations with four states, and ports on which empty pallets go. The more silent moves
+/// are wanted for a line, the more of the lines are internal work, an in or an out.
 fn mixed_lines(lines: usize, silent_moves: usize, random: &mut Random) -> Vec<CellLine> {
     let mut line = || {
         let silent = random.below(2 * lines) < lines / 2 + silent_moves / 2;
         let (act, arg) = match silent {
-            false => (OPERATION, random.below(4)),
-            true => (random.choose(&[INTERNAL, IN, OUT]), random.below(3)),
+            false => (OPERATION, random.below(4) as u8),
+            true => (
+                random.choose(&[INTERNAL, IN, OUT]),
+                PHOTOCELLS + random.below(3) as u8,
+            ),
         };
         let [from, to] = [(); 2].map(|()| random.below(4) as u8);
-        [random.below(3) as u8, from, act, arg as u8, to]
+        [random.below(3) as u8, from, act, arg, to]
     };
     (0..lines).map(|_| line()).collect()
 }
@@ -146,12 +151,13 @@ pub fn odometer_pair(stations: u8) -> (Cell, Recipe) {
 }
 
 /// The lines of stations of eight states. The first goes up by number 0 of an act; each that is at the
-/// top starts anew with a transfer that takes the next one up.
+/// top starts anew with a transfer that takes the next one up, with a part or without.
 fn counting_lines(stations: u8, act: u8) -> Vec<CellLine> {
     let mut lines: Vec<CellLine> = (0..7).map(|state| [0, state, act, 0, state + 1]).collect();
     for k in 1..stations {
-        lines.push([k - 1, 7, OUT, k, 0]);
-        lines.extend((0..7).map(|state| [k, state, IN, k, state + 1]));
+        let port = PHOTOCELLS + k;
+        lines.push([k - 1, 7, OUT, port, 0]);
+        lines.extend((0..7).map(|state| [k, state, IN, port, state + 1]));
     }
     lines
 }

@@ -114,6 +114,7 @@ mod tests {
         bench, bench_table, bench_with, cell_of, gate, limit, limit_with_a_fifth_state, planned,
         recipe_of, BENCH_CELL, PASTED_END, PASTED_LOOP,
     };
+    use crate::generate::without_photocells;
 
     /// The run at a position of the bench example.
     fn run_at(position: u64) -> Run {
@@ -198,6 +199,24 @@ mod tests {
             let again = failed.run.report(&cell, &recipe, &table, outcome);
             assert_eq!((again.refusal, again.run), (0, Run::fresh()));
         }
+    }
+
+    #[test]
+    fn a_stored_move_of_an_empty_pallet_is_no_longer_open() {
+        // At 23 the part is at station 1 already, and the pallet of station 0 would follow it.
+        let mut table = bench_table();
+        table[23] = 33_554_561;
+        assert_eq!(refusals(&table, run_at(23)), [18, 18, 18, 17]);
+        assert_eq!(refusals(&table, run_at(22)), [0, 0, 0, 17]);
+        // Without a photocell it is open as before.
+        let (cell, recipe) = bench();
+        let free = without_photocells(&cell);
+        let next_move = run_at(23).next_move(&free, &recipe, &table);
+        assert_eq!((next_move.refusal, next_move.entry), (0, 33_554_561));
+        let report = run_at(23).report(&free, &recipe, &table, 0);
+        assert_eq!((report.refusal, report.run), (0, run_at(26)));
+        // That is what the planner left there.
+        assert_eq!(planned(&free, &recipe).1[23], 33_554_561);
     }
 
     #[test]
