@@ -332,7 +332,7 @@ fn push_transfer(rows: &mut Rows, shape: &Shape, random: &mut Random) {
     let giver = random.below(resources);
     let taker = (giver + 1 + random.below(resources - 1)) % resources;
     let rare = random.number(64);
-    let port = random.choose(&[0, 1, 63, rare]);
+    let port = random.choose(&[0, 31, 32, 63, rare]);
     let both_ways = random.below(4) == 0;
     for (station, act, other) in [(giver, OUT, IN), (taker, IN, OUT)] {
         let row = cell_row(shape, station, act, port, random);

@@ -134,7 +134,7 @@ fn the_example_has_one_possible_move_everywhere() {
     }
     // The start; earlier ends with the part at station 1 or on its way there, and the test from there; the part
     // taken after either outcome; and all ends.
-    assert_eq!(members, 1 + 4 + 4 + 2 + 2 + 18);
+    assert_eq!(members, 1 + 3 + 3 + 2 + 2 + 18);
 }
 
 #[test]
@@ -434,7 +434,8 @@ fn runs_at_every_earlier_end() {
         }
         table.set(position as u64, planned);
     }
-    assert_eq!(staying, 4);
+    // With the part at station 1 and station 0 in either state, and on its way there.
+    assert_eq!(staying, 3);
 }
 
 #[test]

@@ -29,7 +29,7 @@ const REFUSED: usize = 2_200;
 const LEAST_SEEN: usize = 1_000;
 
 /// Pairs that are planned and looked at, and the most positions of one at which that is done.
-const PLANNED: usize = 2_000;
+const PLANNED: usize = 2_200;
 const LOOKED_AT: usize = 6;
 
 /// The most positions of a pair.

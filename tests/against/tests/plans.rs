@@ -58,8 +58,8 @@ fn the_bench_example_is_planned_and_followed() {
     let Planned { refusal, table } = handed.plan(&mut random);
     assert_eq!(refusal, 0);
     assert_eq!(table[72], STAY);
-    assert_eq!(table[1], 0);
-    assert_eq!(table.iter().filter(|&&entry| entry != 0).count(), 25);
+    assert_eq!((table[1], table[23]), (0, 0));
+    assert_eq!(table.iter().filter(|&&entry| entry != 0).count(), 24);
 
     let (cell, recipe) = (&handed.cell, &handed.recipes);
     let (_, joined) = accepted(cell, recipe).expect("the bench example is accepted");

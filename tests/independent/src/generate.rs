@@ -104,7 +104,7 @@ fn chapters(
         limits,
         gates,
         // The smallest pairs have no room for the states that they want.
-        lanes: random.once_in(3) && most_positions >= 120,
+        lanes: random.once_in(2) && most_positions >= 120,
     };
     let is_wanted = |chapters: &[Recipe]| chapters.iter().all(every_point_is_reached) != forgets;
     let likely = loop {

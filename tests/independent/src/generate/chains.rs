@@ -80,12 +80,16 @@ impl Chain {
         let mut resources: Vec<u8> = (0..count as u8).collect();
         reorder(&mut resources, random);
         let ports = random.choose(&[1, 2, 32, 32, 32]);
+        let guarded = random.once_in(8);
         let mut link = |resource| {
             let mut states: Vec<u8> = (1..random.choose(&[2, 3, 4, 5, 6, 7, 8])).collect();
             reorder(&mut states, random);
             states.insert(0, 0);
-            // Most counts are made with empty pallets. One with a photocell may stop where no part comes.
-            let first = if random.once_in(8) { 0 } else { PHOTOCELLS };
+            // Counts are made with empty pallets, and one with a photocell stops where no part comes.
+            let first = match guarded && random.once_in(2) {
+                true => 0,
+                false => PHOTOCELLS,
+            };
             Link {
                 resource,
                 states,
