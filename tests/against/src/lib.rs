@@ -7,6 +7,7 @@ pub mod damage;
 pub mod gates;
 pub mod generate;
 pub mod installs;
+pub mod lanes;
 pub mod lists;
 pub mod pairs;
 pub mod plans;

@@ -779,10 +779,10 @@ fn great_pairs() {
 #[test]
 fn great_pairs_in_chapters() {
     let mut random = Random::new(22);
-    let mut source = independent::Random(23);
+    let mut source = independent::Random(24);
     let mut seen = Seen::default();
     let lists = Lists {
-        count: 200,
+        count: 500,
         calls: 60,
     };
     let (mut planned, mut greatest) = (0, 0);
