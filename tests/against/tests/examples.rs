@@ -20,6 +20,9 @@ const GAP_CELL: &str = include_str!("../../../examples/gap/cell.csv");
 const GAP_RECIPE: &str = include_str!("../../../examples/gap/recipe.csv");
 const GATE_CELL: &str = include_str!("../../../examples/gate/cell.csv");
 const GATE_RECIPE: &str = include_str!("../../../examples/gate/recipe.csv");
+const LANE_CELL: &str = include_str!("../../../examples/lane/cell.csv");
+const PHOTOCELL_CELL: &str = include_str!("../../../examples/lane/cell_photocell.csv");
+const LANE_RECIPE: &str = include_str!("../../../examples/lane/recipe.csv");
 const CHAPTERS_CELL: &str = include_str!("../../../examples/chapters/cell.csv");
 const CHAPTERS: [&str; 2] = [
     include_str!("../../../examples/chapters/recipe_0.csv"),
@@ -247,6 +250,8 @@ fn the_scripts_build_and_run_the_examples() {
     let limited: Vec<&str> = limited.split(' ').collect();
     let gate = "../gate/cell.csv ../gate/recipe.csv 0 0 0 0";
     let gate: Vec<&str> = gate.split(' ').collect();
+    let lane = "../lane/cell.csv ../lane/recipe.csv 0 0 0 0";
+    let lane: Vec<&str> = lane.split(' ').collect();
     let chapters = ["cell.csv", "recipe_0.csv", "recipe_1.csv"].map(|f| format!("../chapters/{f}"));
     let chapters: Vec<&str> = chapters.iter().map(String::as_str).collect();
     let screened = [&chapters[..], &["0", "0", "1", "0"]].concat();
@@ -258,6 +263,7 @@ fn the_scripts_build_and_run_the_examples() {
         ("run", &nest, "nest"),
         ("screen", &limited, "screen_nest"),
         ("screen", &gate, "screen_gate_opens"),
+        ("screen", &lane, "screen_lane"),
         ("install", &[], "install"),
         ("run", &chapters, "chapters"),
         ("screen", &screened, "screen_chapters"),
@@ -405,6 +411,27 @@ fn a_table_from_before_there_were_gates() {
     let table = BENCH_TABLE.replace("26,50331843", "26,50331651");
     assert_ne!(table, BENCH_TABLE);
     follow("follow_old", [BENCH_CELL, BENCH_RECIPE, &table], "0010");
+}
+
+#[test]
+fn a_pallet_that_is_fetched_empty_and_sent_back_loaded() {
+    let files = [LANE_CELL, LANE_RECIPE];
+    check("lane", Some(LANE_CELL), Some(LANE_RECIPE));
+    screen("screen_lane", files, &["0"; 4]);
+    let table = planned_table(LANE_CELL, &[LANE_RECIPE]);
+    follow("follow_lane", [files[0], files[1], &table], "0000");
+}
+
+#[test]
+fn a_photocell_where_the_pallet_is_fetched() {
+    assert_eq!(LANE_CELL.replace(",40,", ",4,"), PHOTOCELL_CELL);
+    let files = [PHOTOCELL_CELL, LANE_RECIPE];
+    screen("screen_photocell", files, &["0"; 4]);
+    // No process helps but one that needs no pallet.
+    install("install_photocell", files, None);
+    // A table from before there was one: its first move is no longer open.
+    let table = planned_table(LANE_CELL, &[LANE_RECIPE]);
+    follow("follow_photocell", [files[0], files[1], &table], "0000");
 }
 
 #[test]
