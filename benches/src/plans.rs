@@ -6,7 +6,7 @@ use against::calls::{Calls, Independent, Library};
 use against::independent::{
     cell_bytes, cell_of_bytes, chapters_bytes, chapters_of_bytes, dense_pair, judge,
     long_ways_pair, mixed_pair, odometer_pair, recipe_of_bytes, stations_reversed, with_gates,
-    Cell, Joined, Random, Recipe,
+    with_photocells, Cell, Joined, Random, Recipe,
 };
 use against::plans::needed;
 use against::{CellFile, Format, RecipeFile};
@@ -145,6 +145,8 @@ pub fn measure_all() {
         ("bench example", pair_of_files(BENCH_CELL, BENCH_RECIPE)),
         ("29 lines, 14 silent moves", mixed(29, 14, 6)),
         ("64 lines, 52 silent moves", mixed(64, 52, 3)),
+        // The same with every lane on a port with a photocell, so that no empty pallet goes anywhere.
+        ("64 lines, loaded lanes", guarded(mixed(64, 52, 3))),
         ("dense", dense_pair()),
         // The same with a gate for each of the twelve operations by which a test may be carried, so that every
         // test leaves its station in another state on outcome 0.
@@ -170,6 +172,11 @@ pub fn measure_all() {
 
 pub fn mixed(lines: usize, silent_moves: usize, seed: u64) -> (Cell, Recipe) {
     mixed_pair(lines, silent_moves, &mut Random(seed))
+}
+
+/// The pair with its lanes on ports with a photocell.
+fn guarded((cell, recipe): (Cell, Recipe)) -> (Cell, Recipe) {
+    (with_photocells(&cell), recipe)
 }
 
 /// Two of the pairs, with limits that forbid many positions and leave a way from the start.
@@ -213,6 +220,13 @@ mod tests {
             let limited = planned_positions(with_limits(pair.clone(), limits));
             assert!(4 * limited < 3 * planned_positions(pair), "{name}");
         }
+    }
+
+    #[test]
+    fn photocells_take_many_positions_and_leave_a_way() {
+        let free = planned_positions(mixed(64, 52, 3));
+        let guarded = planned_positions(guarded(mixed(64, 52, 3)));
+        assert_eq!((free, guarded), (292_928, 274_933));
     }
 
     #[test]

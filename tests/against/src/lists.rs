@@ -4,7 +4,9 @@ use crate::calls::{Calls, Library};
 use crate::random::Random;
 use crate::rounds::Round;
 use crate::RunRecord;
-use independent::{kind_of, run_bytes, Book, Run, RUN_BYTES};
+use independent::{
+    cell_of_bytes, kind_of, letters_of, run_bytes, Book, Cell, Run, RUN_BYTES, TRANSFER,
+};
 use std::fmt::Debug;
 
 /// What was seen in a list, or in several.
@@ -22,6 +24,9 @@ pub struct Seen {
     pub overfull: usize,
     /// Tests with a gate that were issued, by the form of the report and by the outcome.
     pub gates: [[usize; 2]; 2],
+    /// Transfers issued: through a port with a photocell, and of nothing at all.
+    pub loaded_lanes: usize,
+    pub empty_pallets: usize,
     /// Reports after which the run was in the next chapter, by their form.
     pub joints: [usize; 2],
     /// Calls on a run at an end of an earlier chapter, by the refusal.
@@ -33,6 +38,8 @@ impl Seen {
         self.calls += other.calls;
         self.silent = self.silent.max(other.silent);
         self.overfull += other.overfull;
+        self.loaded_lanes += other.loaded_lanes;
+        self.empty_pallets += other.empty_pallets;
         for (all, one) in [
             (&mut self.next_moves[..], &other.next_moves[..]),
             (&mut self.reports, &other.reports),
@@ -45,6 +52,14 @@ impl Seen {
                 .zip(one)
                 .for_each(|(sum, times)| *sum += times);
         }
+    }
+
+    /// Notes a transfer that was issued from a run.
+    fn note_transfer(&mut self, cell: &Cell, run: &Run, entry: u32) {
+        let [out, ..] = letters_of(entry);
+        let held = run.configuration.places.contains(&(cell.resource[out] + 1));
+        self.loaded_lanes += usize::from(cell.is_loaded_lane(out));
+        self.empty_pallets += usize::from(!held);
     }
 }
 
@@ -143,6 +158,9 @@ impl List<'_> {
             seen.issued[kind_of(entry) as usize] += 1;
             seen.gates[form as usize][usize::from(outcome)] += usize::from(at_gate);
             seen.joints[form as usize] += usize::from(expected.run.chapter > was.chapter);
+            if kind_of(entry) == TRANSFER {
+                seen.note_transfer(&cell_of_bytes(self.cell), &was, entry);
+            }
         }
     }
 

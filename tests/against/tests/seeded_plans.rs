@@ -13,8 +13,8 @@ use against::{reason_for_24, scratches, BAD_CHAPTERS, REFUSALS, TOO_SHORT, UNREA
 use independent::{
     cell_bytes, cell_of_bytes, chapters_bytes, dense_pair, every_point_is_reached, is_overfull,
     joint_choices, judge, kind_of, letters_of, long_ways_pair, mixed_pair, odometer_pair, plan,
-    stored_table, with_gates, without_gates, Book, Cell, Joined, Recipe, CARRY, FEW_JOINT_CHOICES,
-    MOST_CHAPTERS, MOST_POSITIONS, STAY,
+    stored_table, with_gates, with_photocells, without_gates, without_photocells, Book, Cell,
+    Joined, Recipe, CARRY, FEW_JOINT_CHOICES, MOST_CHAPTERS, MOST_POSITIONS, STAY,
 };
 use std::slice;
 
@@ -67,6 +67,7 @@ struct Seen {
     scratches: scratches::Seen,
     limited: Limited,
     gated: Gated,
+    laned: Laned,
     /// Planned tables by R, P and N.
     resources: [usize; 7],
     parts: [usize; 9],
@@ -274,6 +275,55 @@ impl Gated {
     }
 }
 
+/// What was seen of planned tables of cells with a lane that won't start empty.
+#[derive(Default)]
+struct Laned {
+    planned: usize,
+    accepted: usize,
+    /// Of those whose recipe was also planned on other ports: refused for the photocells alone, accepted with
+    /// fewer entries for them, and accepted, but not with photocells everywhere.
+    lost: usize,
+    narrowed: usize,
+    needed: usize,
+}
+
+impl Laned {
+    fn note(&mut self, (cell, joined): &(Cell, Joined), planned: &Planned) {
+        let accepted = planned.refusal == 0;
+        self.planned += 1;
+        self.accepted += usize::from(accepted);
+        if planned.table.len() <= FEW_POSITIONS {
+            let free = stored_table(&without_photocells(cell), joined);
+            let guarded = stored_table(&with_photocells(cell), joined);
+            let lost = planned.table.iter().zip(&free);
+            let fewer = lost.filter(|(&now, &free)| now == 0 && free != 0).count() > 0;
+            self.lost += usize::from(!accepted && free[0] != 0);
+            self.narrowed += usize::from(accepted && fewer);
+            self.needed += usize::from(accepted && guarded[0] == 0);
+        }
+    }
+
+    /// Wants such lanes in a quarter of all planned tables, a third of these accepted, and enough of what they
+    /// can change.
+    fn judge(&self, all: usize) {
+        assert!(4 * self.planned >= all, "too few cells have loaded lanes");
+        assert!(3 * self.accepted >= self.planned, "too few are accepted");
+        let seen = [self.lost, self.narrowed, self.needed];
+        assert!(seen.iter().all(|&times| times >= 150), "{seen:?}");
+    }
+
+    fn print(&self) {
+        println!(
+            "with loaded lanes {} planned, {} accepted, {} of them not with such lanes alone",
+            self.planned, self.accepted, self.needed
+        );
+        println!(
+            "{} refused for the photocells alone, {} accepted with fewer entries",
+            self.lost, self.narrowed
+        );
+    }
+}
+
 impl Seen {
     /// Notes a plan call.
     fn note_call(&mut self, handed: &Handed, refusal: u32) {
@@ -315,6 +365,9 @@ impl Seen {
         if cell.has_gates() {
             self.gated.note(records, planned);
         }
+        if (0..usize::from(cell.count)).any(|line| cell.is_loaded_lane(line)) {
+            self.laned.note(records, planned);
+        }
         if joined.chapters.len() > 1 {
             self.chaptered.note(records, planned);
         }
@@ -350,6 +403,11 @@ impl Seen {
         println!("{} of these 4 for a limit alone", self.limits_past_range);
         self.limited.print();
         self.gated.print();
+        self.laned.print();
+        println!(
+            "transfers issued through a photocell {}, of an empty pallet {}",
+            self.lists.loaded_lanes, self.lists.empty_pallets
+        );
         println!("planned by R {:?}", &self.resources[1..]);
         println!("planned by P {:?}", self.parts);
         println!("planned by N {:?}", &self.points[1..]);
@@ -401,6 +459,7 @@ impl Seen {
         self.scratches.judge(1_000, 30);
         self.limited.judge();
         self.gated.judge(self.parts.iter().sum());
+        self.laned.judge(self.parts.iter().sum());
         assert!(3 * self.accepted > SMALL_PAIRS);
         assert!(self.by_joint_steps > SMALL_PAIRS / 2 && self.mixed > SMALL_PAIRS / 4);
         for (name, seen) in [
@@ -420,6 +479,7 @@ impl Seen {
         assert!(lists.reports[17..].iter().all(|&times| times >= 10_000));
         let mut gates = lists.gates.as_flattened().iter();
         assert!(gates.all(|&times| times >= 1_000));
+        assert!(lists.loaded_lanes >= 1_000 && lists.empty_pallets >= 1_000);
     }
 
     /// The same of small pairs in several chapters.
@@ -437,6 +497,7 @@ impl Seen {
         assert!(self.mixed > SMALL_PAIRS_IN_CHAPTERS / 8);
         let lists = &self.lists;
         assert!(lists.calls >= 300_000 && lists.issued[1..4].iter().all(|&n| n >= 10_000));
+        assert!(lists.loaded_lanes >= 1_000 && lists.empty_pallets >= 1_000);
         assert!(lists.joints.iter().all(|&times| times >= 3_000));
         let at_joints = [0, 17, 18, 19].map(|refusal: usize| lists.at_joints[refusal]);
         assert!(at_joints.iter().all(|&times| times >= 500), "{at_joints:?}");

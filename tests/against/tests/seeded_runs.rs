@@ -8,8 +8,8 @@ use against::rounds::{accepted, compare, Answers, Round, Table};
 use against::{reason_for_24, BAD_CHAPTERS, REFUSALS, TOO_SHORT};
 use independent::{
     cell_of_bytes, entry_of, every_point_is_reached, is_overfull, kind_of, letters_of, run_bytes,
-    run_of_bytes, Cell, Joined, Recipe, Run, CARRY, MOST_CHAPTERS, MOST_POSITIONS, NO_LIMIT,
-    RECIPE_BYTES, RUN_BYTES, TRANSFER,
+    run_of_bytes, without_photocells, Cell, Joined, Recipe, Run, CARRY, MOST_CHAPTERS,
+    MOST_POSITIONS, NO_LIMIT, RECIPE_BYTES, RUN_BYTES, TRANSFER,
 };
 use std::ops::RangeInclusive;
 use std::slice;
@@ -63,6 +63,10 @@ struct Seen {
     other_gates: [usize; 2],
     /// Transfers of no part, of one, and of several.
     handed_over: [usize; 3],
+    /// The latter two through a port with a photocell.
+    loaded: [usize; 2],
+    /// Transfers that only a photocell shuts.
+    not_started: [usize; 1],
     /// Dos that give a part that the same step takes: on the same line, and on another.
     exchanged: [usize; 2],
 }
@@ -195,6 +199,7 @@ impl Seen {
             self.note_limited_move(records, round, entry, answers);
         }
         self.note_second_letter(records, round, entry, answers);
+        self.note_lane(records, round, entry, answers);
         if answers.next_move as u32 != 0 {
             self.moves[kind_of(entry) as usize] += 1;
             if answers.report == 0 || answers.report == 19 {
@@ -226,6 +231,21 @@ impl Seen {
         }
     }
 
+    /// Notes a transfer that would be open without a photocell.
+    fn note_lane(
+        &mut self,
+        (cell, joined): &(Cell, Joined),
+        round: &Round,
+        entry: u32,
+        answers: &Answers,
+    ) {
+        if kind_of(entry) == TRANSFER && answers.next_move >> 32 == 18 {
+            let run = run_of_bytes(&round.run);
+            let open = joined.is_open(&without_photocells(cell), &run, entry);
+            self.not_started[0] += usize::from(open);
+        }
+    }
+
     /// Notes an entry at a test that would be open with another second letter.
     fn note_second_letter(
         &mut self,
@@ -254,10 +274,14 @@ impl Seen {
         let kind = kind_of(entry);
         self.reports[kind as usize] += 1;
         if kind == TRANSFER {
-            let out = cell.resource[letters_of(entry)[0]] + 1;
+            let [out, ..] = letters_of(entry);
+            let giver = cell.resource[out] + 1;
             let places = run.configuration.places.iter();
-            let parts = places.filter(|&&place| place == out).count();
+            let parts = places.filter(|&&place| place == giver).count();
             self.handed_over[parts.min(2)] += 1;
+            if cell.is_loaded_lane(out) {
+                self.loaded[parts.min(2) - 1] += 1;
+            }
         }
         if kind == CARRY {
             self.note_carry(cell, joined.chapter(run.chapter), entry, round);
@@ -313,7 +337,7 @@ impl Seen {
         }
     }
 
-    fn moves_seen(&self) -> [(&str, &[usize]); 10] {
+    fn moves_seen(&self) -> [(&str, &[usize]); 12] {
         [
             ("accepted with an unreached point", &self.unreached[..]),
             ("next-moves of kind 1 to 4", &self.moves[1..]),
@@ -324,6 +348,8 @@ impl Seen {
             ("dos beside a gate that leads elsewhere", &self.gated_dos),
             ("entries that the second letter shuts", &self.other_gates),
             ("transfers of no part, one, several", &self.handed_over),
+            ("of one, several through a photocell", &self.loaded),
+            ("transfers that a photocell shuts", &self.not_started),
             (
                 "dos that give what they take, here and there",
                 &self.exchanged,

@@ -22,6 +22,9 @@ use std::time::Duration;
 const BENCH_CELL: &str = include_str!("../../../examples/bench/cell.csv");
 const BENCH_RECIPE: &str = include_str!("../../../examples/bench/recipe.csv");
 const GATE_CELL: &str = include_str!("../../../examples/gate/cell.csv");
+const LANE_CELL: &str = include_str!("../../../examples/lane/cell.csv");
+const PHOTOCELL_CELL: &str = include_str!("../../../examples/lane/cell_photocell.csv");
+const LANE_RECIPE: &str = include_str!("../../../examples/lane/recipe.csv");
 
 /// How many bytes of a file are read.
 const FILE_BYTES: usize = 8192;
@@ -328,6 +331,15 @@ fn tests_with_and_without_a_reject_gate() {
     let lone = format!("{BENCH_CELL}1,1,4,3,0\n");
     let case = Case::new(&lone, BENCH_RECIPE, "0010");
     assert_eq!(refusal(&case.compare(&folder)), Some(23));
+}
+
+#[test]
+fn a_pallet_fetched_with_and_without_a_photocell() {
+    let folder = folder("lane");
+    let case = Case::new(LANE_CELL, LANE_RECIPE, "0000");
+    assert_eq!(case.compare(&folder), stored_output("walk_lane"));
+    let case = Case::new(PHOTOCELL_CELL, LANE_RECIPE, "0000");
+    assert_eq!(refusal(&case.compare(&folder)), Some(15));
 }
 
 #[test]
