@@ -5,7 +5,7 @@ use against::plans::Handed;
 use against::random::Random;
 use independent::{
     cell_bytes, chain_pair, chapters_bytes, cut, kind_of, letters_of, long_ways_pair, longest_way,
-    stations_reversed, Cell, Joined, Recipe, CARRY,
+    stations_reversed, with_photocells, Cell, Joined, Recipe, CARRY,
 };
 use std::slice;
 
@@ -92,6 +92,11 @@ fn silent_ways_of_thousands_of_moves() {
             let mut seen = Seen::default();
             seen.plan(&pair.0, slice::from_ref(&pair.1), &mut random);
             assert_eq!((seen.long, seen.longest), ([1, 0], moves));
+            // The counts are made with empty pallets, which a photocell stops.
+            let guarded = with_photocells(&pair.0);
+            let mut seen = Seen::default();
+            seen.plan(&guarded, slice::from_ref(&pair.1), &mut random);
+            assert_eq!((seen.planned, seen.longest), ([0, 1], 0));
         }
     }
 }

@@ -29,9 +29,11 @@ const LEAST_SEEN: usize = 1_000;
 /// Runs before a transfer that are tried on every port.
 const TRANSFERS: usize = 1_400;
 
-/// Carries beside which a lane is tried, plans that are looked at, and pallet lines that are planned and listed.
+/// Carries beside which a lane is tried; plans, and how many entries of each are looked at; and pallet lines that
+/// are planned and that are listed.
 const CARRIES: usize = 36_000;
 const PLANNED: usize = 2_500;
+const LOOKED_AT: usize = 40;
 const PALLETS: usize = 4_000;
 const LISTED: usize = 1_500;
 
@@ -357,54 +359,68 @@ impl Plan {
     }
 }
 
+/// What was seen of entries that were planned before there were photocells.
+#[derive(Debug, Default)]
+struct Stored {
+    /// Those that are no longer open.
+    shut: usize,
+    /// Those that are: transfers without a photocell and with one, and all else.
+    transfers: [usize; 2],
+    others: usize,
+}
+
+impl Stored {
+    /// Wants 18 for an entry that is no longer open, which nothing leaves changed, and for every other one what
+    /// it gets without photocells.
+    fn compare(&mut self, plan: &Plan, position: u64, outcome: u8) {
+        let given = plan.given(&plan.handed.cell, position, outcome);
+        let entry = plan.before[position as usize];
+        if plan.is_shut(position) {
+            let run = run_bytes(&plan.joined.run_at(position));
+            assert_eq!(given, (18 << 32, 18, run), "{}", plan.handed);
+            assert_ne!(plan.now.table[position as usize], entry);
+            self.shut += 1;
+            return;
+        }
+        let free = cell_bytes(&without_photocells(&plan.cell));
+        let before = plan.given(&free, position, outcome);
+        assert_eq!(given, before, "{}", plan.handed);
+        let report = if kind_of(entry) == STAY { 19 } else { 0 };
+        assert_eq!((given.0, given.1), (entry.into(), report));
+        if kind_of(entry) == TRANSFER {
+            let port = plan.cell.arg[letters_of(entry)[0]];
+            self.transfers[usize::from(has_photocell(port))] += 1;
+        } else {
+            self.others += 1;
+        }
+    }
+}
+
 #[test]
 fn tables_from_before_there_were_photocells() {
     let mut random = Random::new(83);
     let mut source = independent::Random(84);
-    // Entries that are no longer open, and others: transfers that are open, of both sides, and all else.
-    let (mut shut, mut transfers, mut others) = (0, [0; 2], 0);
+    let mut seen = Stored::default();
     for n in 0..PLANNED {
         let plan = seeded_plan(n, &mut source, &mut random);
-        let free = cell_bytes(&without_photocells(&plan.cell));
-        let mut positions: Vec<u64> = (0..plan.joined.sizes.positions)
+        let positions = 0..plan.joined.sizes.positions;
+        let mut positions: Vec<u64> = positions
             .filter(|&p| plan.before[p as usize] != 0)
             .collect();
         random.shuffle(&mut positions);
         positions.sort_by_key(|&position| !plan.is_shut(position));
-        positions.truncate(40);
-        for position in positions {
-            let outcome = random.below(2) as u8;
-            let given = plan.given(&plan.handed.cell, position, outcome);
-            let entry = plan.before[position as usize];
-            if plan.is_shut(position) {
-                let run = run_bytes(&plan.joined.run_at(position));
-                assert_eq!(given, (18 << 32, 18, run), "{}", plan.handed);
-                assert_ne!(plan.now.table[position as usize], entry);
-                shut += 1;
-                continue;
-            }
-            // It answers as before there were any.
-            assert_eq!(
-                given,
-                plan.given(&free, position, outcome),
-                "{}",
-                plan.handed
-            );
-            assert_eq!(given.0, entry.into());
-            assert_eq!(given.1, if kind_of(entry) == STAY { 19 } else { 0 });
-            match kind_of(entry) {
-                TRANSFER => {
-                    let port = plan.cell.arg[letters_of(entry)[0]];
-                    transfers[usize::from(has_photocell(port))] += 1;
-                }
-                _ => others += 1,
-            }
+        for &position in positions.iter().take(LOOKED_AT) {
+            seen.compare(&plan, position, random.below(2) as u8);
         }
     }
-    println!("{shut} entries of before get 18, {transfers:?} transfers without a photocell and with one and {others} others answer as before");
-    assert!([shut, transfers[0], transfers[1], others]
-        .iter()
-        .all(|&times| times >= LEAST_SEEN));
+    println!("entries from before: {seen:?}");
+    let Stored {
+        shut,
+        transfers,
+        others,
+    } = seen;
+    let all = [shut, transfers[0], transfers[1], others];
+    assert!(all.iter().all(|&times| times >= LEAST_SEEN));
 }
 
 /// What was seen of pallet lines.

@@ -39,15 +39,7 @@ pub(super) fn cell_lines(shape: &Shape, extras: Extras, random: &mut Random) -> 
         let (from, to) = (random.below(states) as u8, random.below(states) as u8);
         lines.push([k as u8, from, act, arg, to]);
     }
-    let tries = random.below(3 * shape.states.len());
-    let more = if extras.lanes {
-        2 * shape.states.len()
-    } else {
-        0
-    };
-    for _ in 0..tries + more {
-        add_lane(&mut lines[without_lanes..], random);
-    }
+    add_lanes(&mut lines[without_lanes..], shape, extras, random);
     if extras.gates {
         add_gates(&mut lines, shape, random);
     }
@@ -63,6 +55,15 @@ fn work(operations: usize, numbers: usize, random: &mut Random) -> (u8, u8) {
         INTERNAL
     };
     (act, random.below(numbers) as u8)
+}
+
+/// Makes pairs of some lines, as often as it happens, and more often where lanes are wanted.
+fn add_lanes(lines: &mut [CellLine], shape: &Shape, extras: Extras, random: &mut Random) {
+    let stations = shape.states.len();
+    let more = if extras.lanes { 2 * stations } else { 0 };
+    for _ in 0..more + random.below(3 * stations) {
+        add_lane(lines, random);
+    }
 }
 
 /// Makes two lines of two resources an out and an in on one port. What is a transfer already stays
