@@ -33,7 +33,6 @@ pub fn on_port(cell: &Cell, line: usize, port: u8) -> Cell {
 
 /// A line along which one pallet goes. It is loaded at one of its stations, but not at the first, and unloaded
 /// there or farther on. Nothing else is done, so that the recipe is realisable exactly if the pallet comes as far.
-#[derive(Clone)]
 pub struct PalletLine {
     /// The stations in the order in which the pallet comes to them; it begins at the first.
     stations: Vec<usize>,
@@ -78,11 +77,12 @@ impl PalletLine {
         }
     }
 
-    /// The lanes over which the pallet has to go empty, and those over which it has to go loaded.
+    /// The lanes over which the pallet has to go empty.
     pub fn empty_lanes(&self) -> Range<usize> {
         0..self.loads
     }
 
+    /// The lanes over which it has to go loaded.
     pub fn loaded_lanes(&self) -> Range<usize> {
         self.loads..self.unloads
     }

@@ -5,6 +5,7 @@
 use against::calls::{Calls, Library};
 use against::installs::{owed, Installing};
 use against::lanes::{has_photocell, on_port, PalletLine, PORTS};
+use against::lists::{self, Form, List};
 use against::pairs::{either_pair, good_pair, lines_at, run_with_move, Pair};
 use against::plans::{Handed, Planned};
 use against::random::Random;
@@ -12,8 +13,8 @@ use against::rounds::{compare, Round, Table};
 use against::RunRecord;
 use independent::{
     cell_bytes, entry_of, every_point_is_reached, is_overfull, kind_of, letters_of, recipe_bytes,
-    run_bytes, stored_table, without_photocells, Cell, Joined, Recipe, Run, CARRY, RUN_BYTES, STAY,
-    TRANSFER,
+    run_bytes, stored_table, without_photocells, Book, Cell, Joined, Recipe, Run, CARRY, RUN_BYTES,
+    STAY, TRANSFER,
 };
 use std::slice;
 
@@ -29,11 +30,12 @@ const LEAST_SEEN: usize = 1_000;
 /// Runs before a transfer that are tried on every port.
 const TRANSFERS: usize = 1_400;
 
-/// Carries beside which a lane is tried; plans, and how many entries of each are looked at; and pallet lines that
-/// are planned and that are listed.
+/// Carries beside which a lane is tried; plans, how many entries of each are looked at, and the calls of a list
+/// over one; and pallet lines that are planned and that are listed.
 const CARRIES: usize = 36_000;
 const PLANNED: usize = 2_500;
 const LOOKED_AT: usize = 40;
+const CALLS: usize = 12;
 const PALLETS: usize = 4_000;
 const LISTED: usize = 1_500;
 
@@ -346,6 +348,17 @@ impl Plan {
         kind_of(entry) == TRANSFER && has_photocell(self.cell.arg[out]) && empty
     }
 
+    /// The positions with an entry of before, in any order, but those first at which it is no longer open.
+    fn positions(&self, random: &mut Random) -> Vec<u64> {
+        let positions = 0..self.joined.sizes.positions;
+        let mut positions: Vec<u64> = positions
+            .filter(|&p| self.before[p as usize] != 0)
+            .collect();
+        random.shuffle(&mut positions);
+        positions.sort_by_key(|&position| !self.is_shut(position));
+        positions
+    }
+
     /// What a next-move call and both forms of report give with the table of before, and the run that they leave.
     fn given(&self, cell: &[u8], position: u64, outcome: u8) -> (u64, u32, [u8; RUN_BYTES]) {
         let recipes = &self.handed.recipes;
@@ -403,12 +416,7 @@ fn tables_from_before_there_were_photocells() {
     let mut seen = Stored::default();
     for n in 0..PLANNED {
         let plan = seeded_plan(n, &mut source, &mut random);
-        let positions = 0..plan.joined.sizes.positions;
-        let mut positions: Vec<u64> = positions
-            .filter(|&p| plan.before[p as usize] != 0)
-            .collect();
-        random.shuffle(&mut positions);
-        positions.sort_by_key(|&position| !plan.is_shut(position));
+        let positions = plan.positions(&mut random);
         for &position in positions.iter().take(LOOKED_AT) {
             seen.compare(&plan, position, random.below(2) as u8);
         }
@@ -421,6 +429,34 @@ fn tables_from_before_there_were_photocells() {
     } = seen;
     let all = [shut, transfers[0], transfers[1], others];
     assert!(all.iter().all(|&times| times >= LEAST_SEEN));
+}
+
+#[test]
+fn lists_over_tables_from_before() {
+    let mut random = Random::new(87);
+    let mut source = independent::Random(88);
+    let mut seen = lists::Seen::default();
+    for n in 0..PLANNED {
+        let plan = seeded_plan(n, &mut source, &mut random);
+        let list = List {
+            cell: &plan.handed.cell,
+            recipes: &plan.handed.recipes,
+            table: &plan.before,
+        };
+        let positions = plan.positions(&mut random);
+        for (&position, form) in positions.iter().zip([Form::Value, Form::Record]) {
+            let mut book = Book::from_position(&plan.cell, &plan.joined, &plan.before, position);
+            seen.add(&list.compare(CALLS, form, &mut book, &mut random));
+        }
+    }
+    let lists::Seen {
+        next_moves,
+        reports,
+        ..
+    } = seen;
+    println!("next-moves {next_moves:?}, reports {reports:?}");
+    let counts = [next_moves[0], next_moves[18], reports[0], reports[18]];
+    assert!(counts.iter().all(|&times| times >= LEAST_SEEN));
 }
 
 /// What was seen of pallet lines.
