@@ -840,7 +840,7 @@ fn great_pairs() {
 #[test]
 fn great_pairs_in_chapters() {
     let mut random = Random::new(22);
-    let mut source = independent::Random(24);
+    let mut source = independent::Random(23);
     let mut seen = Seen::default();
     let lists = Lists {
         count: 500,
