@@ -9,27 +9,27 @@ use Rattle.cell.specs.declared.Cell.{Cell}
 use Rattle.cell.specs.declared.OperationLine.{OperationLine}
 use Rattle.cell.specs.Reader.{noLimits}
 use Rattle.positions.specs.declared.Configuration.{Configuration}
-use Rattle.worked.specs.Moves.{filled, benchEntry}
+use Rattle.worked.specs.Moves.{filled, benchCell, benchEntry}
 use Rattle.worked.specs.Installed.{line}
 
 -- the bench cell with another port between its stations
 unfoldable pub benchThrough : ℕ → Cell
 benchThrough port =
     record {
-      count = 5;
-      resource = filled (0 ∷ 0 ∷ 1 ∷ 1 ∷ 1 ∷ []);
-      from = filled (0 ∷ 1 ∷ 0 ∷ 1 ∷ 2 ∷ []);
-      act = filled (1 ∷ 3 ∷ 2 ∷ 1 ∷ 1 ∷ []);
+      count = benchCell .count;
+      resource = benchCell .resource;
+      from = benchCell .from;
+      act = benchCell .act;
       arg = filled (1 ∷ port ∷ port ∷ 2 ∷ 3 ∷ []);
-      to = filled (1 ∷ 0 ∷ 1 ∷ 2 ∷ 0 ∷ []);
-      limits = noLimits;
+      to = benchCell .to;
+      limits = benchCell .limits;
     }
 
 -- position 23 of the bench example: "port 5, the part at station 1 already"
 unfoldable pub partPassedOn : Configuration
 partPassedOn = record { state = 1 ∷ replicate 5 0; place = 2 ∷ replicate 7 0 }
 
--- the table that was planned when every lane started empty: "a stored 33554561 there gets 18"
+-- the table that was planned when lanes still started empty: "a stored 33554561 there gets 18"
 unfoldable pub tableBefore : List ℕ
 tableBefore = tabulate 90 (λ m. cond (eqb m 23) 33554561 (benchEntry m))
 
