@@ -1,4 +1,6 @@
 // The C interface. No call has a requires: what is handed in may hold anything.
+#![tactic(auto)]
+
 mod get;
 mod put;
 

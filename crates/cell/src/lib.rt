@@ -1,4 +1,6 @@
 // The cell: its record, the rules on a record, and its reader.
+#![tactic(auto)]
+
 pub mod gates;
 pub mod limits;
 pub mod longer;
@@ -18,7 +20,7 @@ use tables::Form;
 
 // The lines of a cell, an array for each field, and the most parts that each resource may hold; of the lines what lies
 // past the count counts for nothing.
-#[derive(Drop)]
+#[derive(Clone, Copy)]
 pub struct Cell {
     pub count: usize,
     pub resource: [u8; 64],
@@ -30,7 +32,7 @@ pub struct Cell {
 }
 
 // An operation line: one of act 1.
-#[derive(Drop)]
+#[derive(Clone, Copy)]
 pub struct OperationLine {
     pub resource: u8,
     pub from: u8,
@@ -40,7 +42,7 @@ pub struct OperationLine {
 
 // What a reader returns: its verdict and the record. Beside a refusal `read_cell` has a record of no lines, and a reader
 // that is handed a record has that one.
-#[derive(Drop)]
+#[derive(Clone, Copy)]
 pub struct CellReading {
     pub verdict: Verdict,
     pub cell: Cell,

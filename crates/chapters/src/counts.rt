@@ -7,7 +7,7 @@ use crate::{Seen, Survey};
 use refusals::Verdict;
 
 // The points of the chapter that is wanted, of those before it, of all and of the one that has most, and the parts.
-#[derive(Drop)]
+#[derive(Clone, Copy)]
 pub struct Counts {
     pub own: usize,
     pub before: usize,

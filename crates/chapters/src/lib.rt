@@ -1,4 +1,6 @@
 // Recipes in chapters: 1 to 8 records one after another, and the rules on them.
+#![tactic(auto)]
+
 mod counts;
 mod rules;
 
@@ -16,7 +18,7 @@ use refusals::Verdict;
 const RECORD: usize = 449;
 
 // What is seen of one chapter: the verdict of its rules and, if these accept, its numbers of points and of parts.
-#[derive(Drop)]
+#[derive(Clone, Copy)]
 pub struct Seen {
     pub verdict: Verdict,
     pub points: usize,
@@ -25,7 +27,7 @@ pub struct Seen {
 
 // What is found out while the rules on chapters are tried: the numbers of points of the chapter that is wanted, of those before it,
 // of all, and of the one that has most; and the parts. Of a chapter that isn't there, no points.
-#[derive(Drop)]
+#[derive(Clone, Copy)]
 pub struct Survey {
     pub verdict: Verdict,
     pub own: usize,

@@ -1,4 +1,6 @@
 // Which process to install: the operation lines of which each alone would make a recipe acceptable.
+#![tactic(auto)]
+
 mod candidates;
 mod groups;
 mod search;
@@ -10,14 +12,14 @@ use recipe::Recipe;
 use refusals::{Refusal, Verdict};
 
 // What an install call answers: its verdict, and how many lines mend the cell, of which the list may have fewer.
-#[derive(Drop)]
+#[derive(Clone, Copy)]
 pub struct Listing {
     pub verdict: Verdict,
     pub count: usize,
 }
 
 // Candidates added behind the lines of a cell: how many, the number of the last, and where the next group begins.
-#[derive(Drop)]
+#[derive(Clone, Copy)]
 pub struct Group {
     pub cell: Cell,
     pub added: usize,
@@ -27,7 +29,7 @@ pub struct Group {
 
 // Where a search stands: the number of the first line that is not decided, how many candidates are tried next, whether these are
 // half of a group that was tried before, and how many lines were found.
-#[derive(Drop)]
+#[derive(Clone, Copy)]
 pub struct Progress {
     pub next: usize,
     pub size: usize,

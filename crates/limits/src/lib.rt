@@ -1,4 +1,6 @@
 // The limits file: its reader, which puts the file's limits into the cell record that it is handed.
+#![tactic(auto)]
+
 mod order;
 mod reader;
 mod station;

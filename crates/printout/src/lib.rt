@@ -1,4 +1,6 @@
 // What `walk` prints: a line for each byte of standard input (turn), put into a lent buffer (text).
+#![tactic(auto)]
+
 pub mod text;
 pub mod turn;
 
@@ -6,7 +8,7 @@ use run::Run;
 
 // What bytes of standard input are answered with: how many bytes of text, whether the walk goes on,
 // and the run afterwards.
-#[derive(Drop)]
+#[derive(Clone, Copy)]
 pub struct Answer {
     pub length: usize,
     pub more: bool,

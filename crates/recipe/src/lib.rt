@@ -1,4 +1,6 @@
 // The recipe: its record, the rules on a record, and its reader.
+#![tactic(auto)]
+
 mod fields;
 mod parts;
 pub mod points;
@@ -17,7 +19,7 @@ use tables::Form;
 
 // The lines of a recipe, an array for each field; what lies past the count counts for nothing.
 // `otherwise` is the field that the file calls else.
-#[derive(Drop)]
+#[derive(Clone, Copy)]
 pub struct Recipe {
     pub count: usize,
     pub point: [u8; 64],
@@ -30,7 +32,7 @@ pub struct Recipe {
 }
 
 // What a reader returns: the record, or a record of no lines with the refusal.
-#[derive(Drop)]
+#[derive(Clone, Copy)]
 pub struct RecipeReading {
     pub verdict: Verdict,
     pub recipe: Recipe,

@@ -1,4 +1,6 @@
 // The byte forms of cell and recipe records, both ways.
+#![tactic(auto)]
+
 mod get;
 mod put;
 

@@ -1,10 +1,12 @@
 // The refusal list of documents 01 and 02, and the verdict of a rule on a file or a record.
+#![tactic(auto)]
+
 ghost use Rattle.std.specs.Prelude.{◌≡◌, ◌≤◌};
 ghost use Rattle.refusals.specs.Refusal.{number_of};
 ghost use Rattle.refusals.specs.Verdict.{line_verdict, rule3};
 
 // One case for each rule: those of document 01 in checking order, then those of the requests of document 02 by number.
-#[derive(Drop)]
+#[derive(Clone, Copy)]
 pub enum Refusal {
     Names,
     Form,
@@ -40,7 +42,7 @@ pub enum Refusal {
 }
 
 // What a rule says: nothing against it, or the refusal with the line that it names (0 for none).
-#[derive(Drop)]
+#[derive(Clone, Copy)]
 pub enum Verdict {
     Accepted,
     Refused(Refusal, usize),

@@ -1,4 +1,6 @@
 // The run: a point of a chapter and a configuration that a stored table leads through a recipe.
+#![tactic(auto)]
+
 mod entry;
 mod joint;
 mod rules;
@@ -14,7 +16,7 @@ use refusals::{Refusal, Verdict};
 
 // Where a product is in its recipe, and how the cell stands.
 #[repr(C)]
-#[derive(Drop)]
+#[derive(Clone, Copy)]
 pub struct Run {
     pub point: u8,
     pub configuration: Configuration,
@@ -22,21 +24,21 @@ pub struct Run {
 }
 
 // What a next-move call answers: the entry, 0 if it is refused.
-#[derive(Drop)]
+#[derive(Clone, Copy)]
 pub struct Move {
     pub verdict: Verdict,
     pub entry: u32,
 }
 
 // What a report answers: the next run, or its own run if it is refused.
-#[derive(Drop)]
+#[derive(Clone, Copy)]
 pub struct Report {
     pub verdict: Verdict,
     pub run: Run,
 }
 
 // What a place call answers: the part's place, 255 if it is refused.
-#[derive(Drop)]
+#[derive(Clone, Copy)]
 pub struct Place {
     pub verdict: Verdict,
     pub place: u8,

@@ -1,4 +1,6 @@
 // Number tables: a names line and value lines of numbers parted by commas.
+#![tactic(auto)]
+
 mod digits;
 pub mod field;
 pub mod lines;
@@ -6,14 +8,14 @@ pub mod row;
 pub mod rules;
 
 // Where a line lies in a file; both 0 for a line that is not there.
-#[derive(Drop)]
+#[derive(Clone, Copy)]
 pub struct Span {
     pub start: usize,
     pub length: usize,
 }
 
 // A number found in a text, with the length of what was read; length 0 where there is none.
-#[derive(Drop)]
+#[derive(Clone, Copy)]
 pub struct Number {
     pub length: usize,
     pub value: u32,
@@ -21,21 +23,21 @@ pub struct Number {
 
 // A value line found in a text, with its length, byte 10 included; length 0 where there is none.
 // A table has at most seven numbers to a line.
-#[derive(Drop)]
+#[derive(Clone, Copy)]
 pub struct Line {
     pub length: usize,
     pub values: [u32; 7],
 }
 
 // One field of a record, and how many lines come before the first number outside its range.
-#[derive(Drop)]
+#[derive(Clone, Copy)]
 pub struct Column {
     pub lines: usize,
     pub values: [u8; 64],
 }
 
 // What rule 2 finds: so many value lines, or the first broken one.
-#[derive(Drop)]
+#[derive(Clone, Copy)]
 pub enum Form {
     Whole(usize),
     Broken(usize),

@@ -1,5 +1,7 @@
 // The program `walk`: plans the cell and the recipe of the working directory, and follows the plan
 // by the outcomes that standard input gives.
+#![tactic(auto)]
+
 ghost use Rattle.std.specs.Prelude.{◌≡◌, [], ◌∷◌, ◌*◌, ◌≤◌, length};
 ghost use Rattle.refusals.specs.Verdict.{first_refusal};
 ghost use Rattle.records.specs.Encoding.{recipe_from};
@@ -13,14 +15,14 @@ use refusals::Verdict;
 use run::Run;
 
 // How many bytes were handed to standard output, and whether writing them failed.
-#[derive(Drop)]
+#[derive(Clone, Copy)]
 pub struct Printed {
     pub length: usize,
     pub failed: bool,
 }
 
 // What the files and the plan come to.
-#[derive(Drop)]
+#[derive(Clone, Copy)]
 pub struct Ready {
     pub verdict: Verdict,
     pub cell: Cell,
@@ -29,7 +31,7 @@ pub struct Ready {
 // What one read of standard input comes to: how many bytes it gave, how many bytes of text were
 // handed over for them, whether writing these failed, whether the walk goes on, and the run
 // afterwards.
-#[derive(Drop)]
+#[derive(Clone, Copy)]
 pub struct Step {
     pub got: usize,
     pub length: usize,
