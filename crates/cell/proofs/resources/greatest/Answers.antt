@@ -1,0 +1,38 @@
+use mathlib.Core.Path.{◌≡◌, refl, sym, ◌∙◌}
+use mathlib.Core.Logic.{⊎_elim}
+use Prim.Native.Nat.{◌≤◌, ◌-◌}
+use native.Mathlib.Omega.{arith}
+use Rattle.refusals.specs.Search.{greatest_below}
+use Rattle.refusals.proofs.Scan.{greatest_more, greatest_same}
+use Rattle.cell.specs.Rules.{greatest_resource}
+use Rattle.cell.proofs.resources.greatest.Goals as goal
+
+pub loop-i-init : goal.loop-i-init
+unfolding greatest_resource greatest_below
+loop-i-init c = (omega arith, refl)
+
+pub bounds-resource-i : goal.bounds-resource-i
+bounds-resource-i c = omega arith
+
+pub bounds-resource-i-then-most-resource : goal.bounds-resource-i-then-most-resource
+bounds-resource-i-then-most-resource c = omega arith
+
+pub overflow_add-i : goal.overflow_add-i
+overflow_add-i c = omega arith
+
+pub loop-i-smaller : goal.loop-i-smaller
+loop-i-smaller c = omega arith
+
+pub loop-i-preserved : goal.loop-i-preserved
+unfolding greatest_resource
+loop-i-preserved c = (
+  omega arith,
+  ⊎_elim
+      (λ w. rw w.2 (greatest_more _ _ (omega (arith, c.loop-i.invariant.1, w.0.taken))))
+      (λ w. rw w.1 (greatest_same _ _ (omega (arith, c.loop-i.invariant.1, w.0.left)) ∙ c.loop-i.invariant.1))
+      c.if-most-resource.branch,
+
+)
+
+pub returns : goal.returns
+returns c = let e : c.loop-i.i ≡ c.args.count = omega arith in sym (rw e at c.loop-i.invariant.1)

@@ -1,0 +1,15 @@
+use mathlib.Core.Path.{◌≡◌, refl, sym, ap, ◌∙◌}
+use mathlib.Core.Bool.{false, not}
+use Prim.Native.Nat.{◌≤◌, ◌-◌}
+use native.Mathlib.Omega.{arith}
+use borrow.Author.Rules.{rules}
+use Rattle.refusals.specs.Search.{any_below}
+use Rattle.refusals.proofs.Scan.{any_more, any_hit}
+use Rattle.cell.specs.Rules.{has_no_line, gap}
+use Rattle.cell.proofs.resources.has_gap.Given as goal
+
+abbrev pub invariant-loop-k : goal.invariant-loop-k
+invariant-loop-k l = (l.k ≤ l.most) × (any_below (has_no_line l.resource l.count) l.k ≡ false)
+
+abbrev pub decreases-loop-k : goal.decreases-loop-k
+decreases-loop-k l = l.most - l.k
