@@ -11,7 +11,7 @@ unfolding check_cell cell_rules ranges port_rules
 returns-in_default c = refuses _ c.check_count-counted.ensures c.in_default.is
 
 pub check_ranges-ranged-requires : goal.check_ranges-ranged-requires
-check_ranges-ranged-requires c = (count_in_range _ (sym c.check_count-counted.ensures ∙ c.in-Accepted.is)).most-1
+check_ranges-ranged-requires c = (count_in_range _ (sym c.check_count-counted.ensures ∙ c.in-Accepted.is)).most
 
 pub returns-in_default-ranged : goal.returns-in_default-ranged
 unfolding check_cell cell_rules ranges port_rules
@@ -22,7 +22,7 @@ returns-in_default-ranged c =
 
 pub check_ports-paired-requires : goal.check_ports-paired-requires
 check_ports-paired-requires c =
-    (count_in_range _ (sym c.check_count-counted.ensures ∙ c.in-Accepted.is)).most-1
+    (count_in_range _ (sym c.check_count-counted.ensures ∙ c.in-Accepted.is)).most
 
 pub returns-in_default-paired : goal.returns-in_default-paired
 unfolding check_cell cell_rules ranges port_rules
@@ -34,7 +34,7 @@ returns-in_default-paired c =
 
 pub check_limits-limited-requires : goal.check_limits-limited-requires
 check_limits-limited-requires c =
-    (count_in_range _ (sym c.check_count-counted.ensures ∙ c.in-Accepted.is)).most-1
+    (count_in_range _ (sym c.check_count-counted.ensures ∙ c.in-Accepted.is)).most
 
 pub returns-in_default-limited : goal.returns-in_default-limited
 unfolding check_cell cell_rules ranges port_rules limits_verdict rule20
@@ -47,7 +47,7 @@ returns-in_default-limited c =
 
 pub check_gates-requires : goal.check_gates-requires
 check_gates-requires c =
-    (count_in_range _ (sym c.check_count-counted.ensures ∙ c.in-Accepted.is)).most-1
+    (count_in_range _ (sym c.check_count-counted.ensures ∙ c.in-Accepted.is)).most
 
 pub returns : goal.returns
 unfolding check_cell cell_rules ranges port_rules limits_verdict rule20

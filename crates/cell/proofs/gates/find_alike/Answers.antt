@@ -32,7 +32,6 @@ pub loop-k-preserved : goal.loop-k-preserved
 loop-k-preserved c = (
   omega arith,
   first_more _ _ c.loop-k.invariant.1 (sym c.is_alike.ensures ∙ c.if-is_alike.false),
-
 )
 
 pub returns : goal.returns

@@ -37,7 +37,6 @@ pub loop-k-preserved : goal.loop-k-preserved
 loop-k-preserved c = (
   omega arith,
   any_more _ _ c.loop-k.invariant.1 (limit_fits _ _ c.if-limits-k-lt1.false c.if-limits-k-gt8.false),
-
 )
 
 pub returns : goal.returns

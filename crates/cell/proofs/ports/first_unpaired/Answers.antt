@@ -11,6 +11,7 @@ use Rattle.cell.specs.Rules.{other_act, partner, unpaired}
 use Rattle.cell.proofs.Partners.{neither, paired, alone}
 use Rattle.cell.proofs.FirstOnPort.{place, Passed, passed_start, passed_more, passed_end}
 use Rattle.cell.proofs.ports.first_unpaired.Goals as goal
+use Rattle.cell.proofs.ports.first_unpaired.Goals.{in_default-via-then-kind-lt2, in_default-via-else-kind-lt2+else-kind-lt4}
 
 pub first_lines-first-requires : goal.first_lines-first-requires
 first_lines-first-requires c = omega arith
@@ -89,11 +90,10 @@ pub lines-preserved : goal.lines-preserved
 lines-preserved c = (
   omega arith,
   first_more _ _ c.lines.invariant.1
-      (⊎_elim
-      (λ w. neither _ _ _ _ _ (λ e. omega arith) (λ e. omega arith))
-      (λ w. neither _ _ _ _ _ (λ e. omega arith) (λ e. omega arith))
-      c.if-kind-lt2.branch),
-
+      (elim c.in_default.branch [
+        in_default-via-then-kind-lt2 w ↦ neither _ _ _ _ _ (λ e. omega arith) (λ e. omega arith)
+      | in_default-via-else-kind-lt2+else-kind-lt4 w ↦ neither _ _ _ _ _ (λ e. omega arith) (λ e. omega arith)
+      ]),
 )
 
 pub returns : goal.returns

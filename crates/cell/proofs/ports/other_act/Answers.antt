@@ -12,4 +12,4 @@ returns-in-3 c = rw c.in-3.is
 
 pub returns-in_default : goal.returns-in_default
 unfolding other_act
-returns-in_default c = rw (ne_eqb c.args.act 2 c.in-2.rest.0.1, ne_eqb c.args.act 3 c.in-2.rest.1)
+returns-in_default c = rw (ne_eqb c.args.act 2 c.in_default.in_default-own.rest.0.1, ne_eqb c.args.act 3 c.in_default.in_default-own.rest.1)

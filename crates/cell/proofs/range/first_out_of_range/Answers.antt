@@ -33,7 +33,7 @@ returns-then-not-in_range c =
     sym
     (first_hit _ _ _ c.loop-i-test.true
     c.loop-i.invariant.1
-    (ap not (sym c.is_in_range.ensures) ∙ c.if-not-in_range.true-raw))
+    (ap not (sym c.in_range.ensures) ∙ c.if-not-in_range.true-raw))
 
 pub overflow_add-i : goal.overflow_add-i
 overflow_add-i c = omega arith
@@ -46,8 +46,7 @@ unfolding leaves_range in_range
 loop-i-preserved c = (
   omega arith,
   first_more _ _ c.loop-i.invariant.1
-      (ap not (sym c.is_in_range.ensures) ∙ c.if-not-in_range.false-raw),
-
+      (ap not (sym c.in_range.ensures) ∙ c.if-not-in_range.false-raw),
 )
 
 pub returns : goal.returns

@@ -6,6 +6,7 @@ use Rattle.refusals.specs.Search.{greatest_below}
 use Rattle.refusals.proofs.Scan.{greatest_more, greatest_same}
 use Rattle.cell.specs.Rules.{greatest_resource}
 use Rattle.cell.proofs.resources.greatest.Goals as goal
+use Rattle.cell.proofs.resources.greatest.Goals.{then-most-resource, else-most-resource}
 
 pub loop-i-init : goal.loop-i-init
 unfolding greatest_resource greatest_below
@@ -27,11 +28,10 @@ pub loop-i-preserved : goal.loop-i-preserved
 unfolding greatest_resource
 loop-i-preserved c = (
   omega arith,
-  ⊎_elim
-      (λ w. rw w.2 (greatest_more _ _ (omega (arith, c.loop-i.invariant.1, w.0.taken))))
-      (λ w. rw w.1 (greatest_same _ _ (omega (arith, c.loop-i.invariant.1, w.0.left)) ∙ c.loop-i.invariant.1))
-      c.if-most-resource.branch,
-
+  elim c.if-most-resource.branch [
+    then-most-resource w ↦ rw w.most-is (greatest_more _ _ (omega (arith, c.loop-i.invariant.1, w.if-most-resource.true)))
+  | else-most-resource w ↦ rw w.most-is (greatest_same _ _ (omega (arith, c.loop-i.invariant.1, w.if-most-resource.false)) ∙ c.loop-i.invariant.1)
+  ],
 )
 
 pub returns : goal.returns

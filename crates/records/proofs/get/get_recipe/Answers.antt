@@ -1,0 +1,25 @@
+use mathlib.Core.Path.{◌∙◌}
+use lib.ListN.{length}
+use borrow.Author.Tests.{lt-ltb, le-ltb}
+use Rattle.records.specs.Encoding.{recipe_from}
+use borrow.Author.Rules.{rules}
+use Rattle.records.proofs.get.get_recipe.Goals as goal
+
+pub returns-then-bytes-lt449 : goal.returns-then-bytes-lt449
+unfolding recipe_from
+returns-then-bytes-lt449 c = c.no_recipe.ensures ∙ rw (lt-ltb (length c.args.bytes.now) 449 c.if-bytes-lt449.true)
+
+pub returns : goal.returns
+unfolding recipe_from
+returns c =
+    rw (
+      c.count_from-count.ensures,
+      c.column-point.ensures,
+      c.column-kind.ensures,
+      c.column-op.ensures,
+      c.column-takes.ensures,
+      c.column-gives.ensures,
+      c.column-then.ensures,
+      c.column-otherwise.ensures,
+      le-ltb (length c.args.bytes.now) 449 c.if-bytes-lt449.false,
+    )

@@ -1,0 +1,8 @@
+use native.Mathlib.Nat.{add-zero}
+use Rattle.refusals.specs.Search.{tabulate}
+use borrow.Author.Rules.{rules}
+use Rattle.records.proofs.get.six.Goals as goal
+
+pub returns : goal.returns
+unfolding tabulate
+returns c = rw (add-zero c.args.at)

@@ -1,0 +1,17 @@
+use Prim.Native.Nat.{◌-◌, ◌≤◌}
+use mathlib.Core.Path.{refl, ◌∙◌}
+use native.Mathlib.Omega.{arith}
+use lib.ListN.{length, set, length-set}
+use Rattle.records.specs.Encoding.{recipe_row, recipe_bytes}
+use Rattle.records.proofs.ByteRows.{RowsPut, put_none, put_more, put_all}
+use Rattle.records.proofs.put.put_recipe.Given as goal
+
+abbrev pub invariant-loop-i : goal.invariant-loop-i
+invariant-loop-i l =     (l.i ≤ 64)
+    × (449 ≤ length l.initial.buffer)
+    × RowsPut
+    (recipe_row (record { l.count = l.count; l.point = l.point; l.kind = l.kind; l.op = l.op; l.takes = l.takes; l.gives = l.gives; l.then = l.then; l.otherwise = l.otherwise }))
+    7 l.count l.initial.buffer l.i l.at l.buffer
+
+abbrev pub decreases-loop-i : goal.decreases-loop-i
+decreases-loop-i l = 64 - l.i
