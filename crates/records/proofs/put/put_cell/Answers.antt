@@ -67,11 +67,11 @@ pub put-requires-2 : goal.put-requires-2
 put-requires-2 c =
     let l = c.loop-i in
     let x = c.args.cell in
-    let six : length x.limits ≡ 6 = sym (slice_bounds-put-end-2 c) in
+    let six : length x.limits ≡ 6 = search rules in
     omega (arith, six, l.invariant.2.at_is, l.invariant.2.size, l.invariant.1)
 
 pub shape_of-buffer : goal.shape_of-buffer
-shape_of-buffer c = c.put-2.auto.0 ∙ c.loop-i.invariant.2.size ∙ simp length-set
+shape_of-buffer c = c.put-2.auto.buffer ∙ c.loop-i.invariant.2.size ∙ simp length-set
 
 pub returns : goal.returns
 unfolding cell_row cell_bytes
@@ -80,7 +80,7 @@ returns c =
     let x = c.args.cell in
     let old = c.args.buffer.now in
     let here : l.at ≡ 321 = omega (arith, l.invariant.2.at_is) in
-    let six : length x.limits ≡ 6 = sym (slice_bounds-put-end-2 c) in
+    let six : length x.limits ≡ 6 = search rules in
     let lines = put_all (cell_row x) 5 x.count old l.i l.at 321 l.buffer l.invariant.2 (omega arith) refl in
     rw (tabulate_is (λ k. get_or x.limits k 0) x.limits 6 six (λ k low. refl))
     (put_next (x.count ∷ rows_of (cell_row x) 64) old x.limits l.buffer _ 321 327 lines

@@ -15,7 +15,7 @@ use Rattle.records.proofs.put.put_cell.Given as goal
 abbrev pub invariant-loop-i : goal.invariant-loop-i
 invariant-loop-i l =     (l.i ≤ 64)
     × (327 ≤ length l.initial.buffer)
-    × RowsPut (cell_row (record { l.count = l.count; l.resource = l.resource; l.from = l.from; l.act = l.act; l.arg = l.arg; l.to = l.to; l.limits = l.limits })) 5 l.count l.initial.buffer l.i l.at l.buffer
+    × RowsPut (cell_row (record { count = l.count; resource = l.resource; from = l.from; act = l.act; arg = l.arg; to = l.to; limits = l.limits })) 5 l.count l.initial.buffer l.i l.at l.buffer
 
 abbrev pub decreases-loop-i : goal.decreases-loop-i
 decreases-loop-i l = 64 - l.i

@@ -10,7 +10,7 @@ abbrev pub invariant-loop-i : goal.invariant-loop-i
 invariant-loop-i l =     (l.i ≤ 64)
     × (449 ≤ length l.initial.buffer)
     × RowsPut
-    (recipe_row (record { l.count = l.count; l.point = l.point; l.kind = l.kind; l.op = l.op; l.takes = l.takes; l.gives = l.gives; l.then = l.then; l.otherwise = l.otherwise }))
+    (recipe_row (record { count = l.count; point = l.point; kind = l.kind; op = l.op; takes = l.takes; gives = l.gives; then = l.then; otherwise = l.otherwise }))
     7 l.count l.initial.buffer l.i l.at l.buffer
 
 abbrev pub decreases-loop-i : goal.decreases-loop-i
