@@ -1,0 +1,13 @@
+use mathlib.Core.Path.{◌≡◌, sym, ◌∙◌}
+use mathlib.Core.Bool.{true}
+use Prim.Native.Nat.{◌≤◌, ◌-◌}
+use native.Mathlib.Omega.{arith}
+use Rattle.refusals.specs.Search.{all_below}
+use Rattle.steps.proofs.LoopTurns.{spare, spare_first, spare_more, spare_not, spare_all}
+use Rattle.steps.proofs.entry.is_unused.Given as goal
+
+abbrev pub invariant-loop-j : goal.invariant-loop-j
+invariant-loop-j l = (l.n ≤ l.j) × (l.j ≤ 4) × (all_below (spare l.entry l.n) l.j ≡ true)
+
+abbrev pub decreases-loop-j : goal.decreases-loop-j
+decreases-loop-j l = 4 - l.j
