@@ -25,6 +25,10 @@ pub slice_bounds-get_recipe-count : goal.slice_bounds-get_recipe-count
 slice_bounds-get_recipe-count c =
     omega (arith, c.number.ensures, chapters_length c.args.recipes.now)
 
+pub slice_bounds-get_recipe-start : goal.slice_bounds-get_recipe-start
+slice_bounds-get_recipe-start c =
+    omega (arith, c.number.ensures, chapters_length c.args.recipes.now)
+
 pub returns : goal.returns
 returns c =
     let bytes = c.args.recipes.now in
