@@ -1,0 +1,19 @@
+use mathlib.Core.Path.{◌≡◌, refl, ◌∙◌}
+use Prim.Native.Nat.{◌+◌, ◌*◌, ◌-◌}
+use native.Mathlib.Omega.{arith}
+use lib.ListN.{length}
+use Rattle.marks.proofs.MarkSets.{same_room}
+use Rattle.install.specs.Search.{SoFar, Standing}
+use Rattle.install.proofs.ListedSoFar.{so_far_none, so_far_at}
+use Rattle.install.proofs.TriedGroups.{numbers_most, standing_first}
+use Rattle.install.proofs.search.seek.Given as goal
+
+abbrev pub invariant-loop-at : goal.invariant-loop-at
+invariant-loop-at l =     (length l.table ≡ length l.initial.table)
+    × (length l.scratch ≡ length l.initial.scratch)
+    × (length l.list ≡ length l.initial.list)
+    × Standing l.cell l.end l.at
+    × SoFar l.cell l.recipe l.initial.list l.at.next l.at.found l.list
+
+abbrev pub decreases-loop-at : goal.decreases-loop-at
+decreases-loop-at l = (l.end - l.at.next) * 65 + l.at.size
