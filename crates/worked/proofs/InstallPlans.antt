@@ -234,7 +234,7 @@ unfed_listed =
     (among_either (Mends unfed_cell bench_recipe) (line 1 0 1 1) []
     (line_mends unfed_cell bench_recipe (line 1 0 1 1) feeding_table hand_ranks computed.feeding_there)
     (among_none (Mends unfed_cell bench_recipe))))
-    (λ l h. ⊎_elim (idle idle_feeding idle_stages computed.idle-feeding l) (idle idle_behind (first_stages 90) computed.idle-behind l)
+    (λ l h. ⊎_elim (idle idle_feeding idle_stages computed.idle_feeding_lem l) (idle idle_behind (first_stages 90) computed.idle_behind_lem l)
     (or_cases (is_among l idle_feeding) _ h))
 
 -- the station of two states: three lines

@@ -130,8 +130,8 @@ joint_refusals =
       none_run = λ c. run_gets Chapters c [] (computed.none false c);
       many_plan = λ c r. plan_gets Chapters c (nine r) (computed.many true c r);
       many_run = λ c r. run_gets Chapters c (nine r) (computed.many false c r);
-      end_plan = plan_gets Chapters bench_cell end_earlier (computed.end-earlier true);
-      end_run = run_gets Chapters bench_cell end_earlier (computed.end-earlier false);
+      end_plan = plan_gets Chapters bench_cell end_earlier (computed.end_earlier_lem true);
+      end_run = run_gets Chapters bench_cell end_earlier (computed.end_earlier_lem false);
       unreached_plan = plan_gets UnreachedPoint bench_cell unreached_earlier computed.unreached_plan;
       unreached_run = run_gets Chapters bench_cell unreached_earlier computed.unreached_run;
     }

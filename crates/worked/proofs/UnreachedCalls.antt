@@ -56,4 +56,4 @@ pub loop_22 : Gets22 bench_cell loop_recipe
 loop_22 = gets_22 bench_cell loop_recipe (records_ok _ _ computed.loop_sized) 6 (omega (arith, computed.seven)) points.loop.1
 
 pub turned_else_22 : Gets22 bench_cell turned_else
-turned_else_22 = gets_22 bench_cell turned_else (records_ok _ _ computed.turned_sized) 3 (omega (arith, computed.five)) points.turned-else
+turned_else_22 = gets_22 bench_cell turned_else (records_ok _ _ computed.turned_sized) 3 (omega (arith, computed.five)) points.turned_else_lem
