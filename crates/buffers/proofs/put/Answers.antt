@@ -1,8 +1,7 @@
-use mathlib.Core.Path.{◌≡◌, refl, ◌∙◌}
-use Prim.Native.Nat.{◌-◌, ◌+◌, ◌≤◌}
+use mathlib.Core.Path.{refl, ◌∙◌}
 use native.Mathlib.Omega.{arith}
-use lib.ListN.{length, take}
-use lib.Seq.{sets, length-sets}
+use lib.ListN.{take}
+use lib.Seq.{length-sets}
 use Rattle.buffers.proofs.StoredBytes.{stored_next, stored_all}
 use Rattle.buffers.proofs.put.Goals as goal
 

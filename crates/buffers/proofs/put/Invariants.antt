@@ -1,9 +1,7 @@
-use mathlib.Core.Path.{◌≡◌, refl, ◌∙◌}
+use mathlib.Core.Path.{◌≡◌}
 use Prim.Native.Nat.{◌-◌, ◌+◌, ◌≤◌}
-use native.Mathlib.Omega.{arith}
 use lib.ListN.{length, take}
-use lib.Seq.{sets, length-sets}
-use Rattle.buffers.proofs.StoredBytes.{stored_next, stored_all}
+use lib.Seq.{sets}
 use Rattle.buffers.proofs.put.Given as goal
 
 abbrev pub invariant-loop-i : goal.invariant-loop-i

@@ -3,7 +3,6 @@ use Rattle.cell.specs.Rules.{rule20, cell_rules, check_cell}
 use Rattle.cell.specs.Inner.{ranges, port_rules, limits_verdict}
 use Rattle.refusals.proofs.Verdicts.{count_in_range}
 use Rattle.refusals.proofs.Rules.{refuses, accepts, decides, part_refuses, part_accepts}
-use borrow.Author.Rules.{rules}
 use Rattle.cell.proofs.check_cell.Goals as goal
 
 pub returns-in_default : goal.returns-in_default

@@ -1,6 +1,5 @@
 use Rattle.refusals.proofs.Verdicts.{line}
 use Rattle.cell.specs.Rules.{rule23}
-use borrow.Author.Rules.{rules}
 use Rattle.cell.proofs.check_gates.Goals as goal
 
 pub returns : goal.returns

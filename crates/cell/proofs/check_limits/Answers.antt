@@ -4,7 +4,6 @@ use Rattle.refusals.specs.declared.Refusal.TheVariants.{LimitResource}
 use Rattle.refusals.proofs.Verdicts.{no_line_broken, no_line_kept}
 use Rattle.cell.specs.Inner.{limits_verdict}
 use Rattle.cell.proofs.StationLimits.{none_absent}
-use borrow.Author.Rules.{rules}
 use Rattle.cell.proofs.check_limits.Goals as goal
 
 pub returns-then-not-any_limited : goal.returns-then-not-any_limited

@@ -4,7 +4,6 @@ use Rattle.refusals.proofs.Verdicts.{no_line_broken, no_line_kept, line}
 use Rattle.refusals.proofs.Rules.{refuses, accepts, decides}
 use Rattle.cell.specs.Rules.{has_no_line, gap, rule5, rule6}
 use Rattle.cell.specs.Inner.{port_rules}
-use borrow.Author.Rules.{rules}
 use Rattle.cell.proofs.check_ports.Goals as goal
 
 pub returns-then-has_gap : goal.returns-then-has_gap

@@ -4,7 +4,6 @@ use Rattle.refusals.proofs.Verdicts.{broken, kept, no_line_broken, no_line_kept}
 use Rattle.refusals.proofs.Rules.{decides}
 use Rattle.cell.specs.Rules.{rule4, rule4_limits}
 use Rattle.cell.specs.Inner.{ranges}
-use borrow.Author.Rules.{rules}
 use Rattle.cell.proofs.check_ranges.Goals as goal
 
 pub returns-then-first-count : goal.returns-then-first-count

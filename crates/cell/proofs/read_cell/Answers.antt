@@ -8,7 +8,6 @@ use Rattle.tables.proofs.KeptNumbers.{whole, broken, breaks_is, broken_few}
 use Rattle.cell.specs.Rules.{check_cell}
 use Rattle.cell.specs.Reader.{cell_names, judge_cell, read_cell}
 use Rattle.cell.specs.Inner.{reading}
-use borrow.Author.Rules.{rules}
 use Rattle.cell.proofs.read_cell.Goals as goal
 
 pub returns-then-not-has_names : goal.returns-then-not-has_names

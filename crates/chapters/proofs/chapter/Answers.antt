@@ -8,7 +8,6 @@ use Rattle.records.specs.Encoding.{recipe_from}
 use Rattle.chapters.specs.Joined.{chapter_at}
 use Rattle.chapters.specs.Records.{chapters_from}
 use Rattle.chapters.proofs.ChapterBytes.{chapters_length, chapter_at_lem}
-use borrow.Author.Rules.{rules}
 use Rattle.chapters.proofs.chapter.Goals as goal
 
 pub returns-then-number-k : goal.returns-then-number-k

@@ -10,7 +10,6 @@ use Rattle.chapters.specs.Records.{chapters_from}
 use Rattle.chapters.specs.Survey.{Counted}
 use Rattle.chapters.proofs.ChapterSizes.{small_survey, most_rule13}
 use Rattle.chapters.proofs.AcceptedChapters.{RecordsAccepted, records_accepted, seen_at}
-use borrow.Author.Rules.{rules}
 use Rattle.chapters.proofs.check.Goals as goal
 
 pub check_records-found-requires : goal.check_records-found-requires

@@ -7,7 +7,6 @@ use Rattle.chapters.specs.Rules.{rule24, chapters_rules, record_rules}
 use Rattle.chapters.specs.Records.{chapters_from}
 use Rattle.chapters.proofs.AcceptedChapters.{number_kept}
 use Rattle.chapters.proofs.CountedChapters.{not_counted}
-use borrow.Author.Rules.{rules}
 use Rattle.chapters.proofs.check_records.Goals as goal
 
 pub returns-in_default : goal.returns-in_default

@@ -5,7 +5,6 @@ use lib.Dec.{ltb}
 use Rattle.chapters.specs.Joined.{is_earlier}
 use Rattle.chapters.specs.Records.{chapters_from}
 use Rattle.chapters.proofs.Landing.{not_earlier}
-use borrow.Author.Rules.{rules}
 use Rattle.chapters.proofs.is_earlier.Goals as goal
 
 pub returns-then-number-k : goal.returns-then-number-k

@@ -5,7 +5,6 @@ use Rattle.recipe.specs.Rules.{check_recipe}
 use Rattle.recipe.proofs.AcceptedRecord.{each_accepts}
 use Rattle.recipe.proofs.PointOrder.{ordered_all}
 use Rattle.chapters.proofs.AcceptedChapters.{chapter_accepted}
-use borrow.Author.Rules.{rules}
 use Rattle.chapters.proofs.look.Goals as goal
 
 pub returns-in_default : goal.returns-in_default

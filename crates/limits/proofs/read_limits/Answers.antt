@@ -4,7 +4,6 @@ use Rattle.refusals.proofs.Verdicts.{count_in_range}
 use Rattle.cell.proofs.AcceptedRecord.{each_accepts}
 use Rattle.limits.specs.Reader.{at_no_line, judge_limits, read_limits}
 use Rattle.limits.specs.Inner.{reading}
-use borrow.Author.Rules.{rules}
 use Rattle.limits.proofs.read_limits.Goals as goal
 
 pub read_file-requires : goal.read_file-requires

@@ -1,7 +1,6 @@
 use Rattle.recipe.specs.Rules.{rule9, rule10}
 use Rattle.refusals.proofs.Verdicts.{line, broken, kept}
 use Rattle.refusals.proofs.Rules.{decides}
-use borrow.Author.Rules.{rules}
 use Rattle.recipe.proofs.check_fields.Goals as goal
 
 pub returns-then-first-recipe : goal.returns-then-first-recipe

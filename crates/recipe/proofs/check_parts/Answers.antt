@@ -3,14 +3,13 @@ use Rattle.recipe.specs.Rules.{rule11, rule12}
 use Rattle.refusals.proofs.Verdicts.{line, broken, kept}
 use Rattle.refusals.proofs.Rules.{decides}
 use Rattle.recipe.proofs.PointOrder.{ordered_all}
-use borrow.Author.Rules.{rules}
 use Rattle.recipe.proofs.check_parts.Goals as goal
 
 pub first_common-first-requires : goal.first_common-first-requires
 first_common-first-requires c = record {
-      count_bound = c.requires.count_nonzero.1;
-      count_value = ordered_all _ c.requires.recipe_value;
-    }
+  count_bound = c.requires.count_nonzero.1;
+  count_value = ordered_all _ c.requires.recipe_value;
+}
 
 pub returns-then-first-count : goal.returns-then-first-count
 unfolding rule11
@@ -18,9 +17,9 @@ returns-then-first-count c = broken _ _ _ _ c.first_common-first.ensures _ c.if-
 
 pub point_count-all-requires : goal.point_count-all-requires
 point_count-all-requires c = record {
-      count_nonzero = c.requires.count_nonzero;
-      count_value = ordered_all _ c.requires.recipe_value;
-    }
+  count_nonzero = c.requires.count_nonzero;
+  count_value = ordered_all _ c.requires.recipe_value;
+}
 
 pub returns : goal.returns
 unfolding rule11 rule12

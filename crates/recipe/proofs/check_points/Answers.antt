@@ -5,7 +5,6 @@ use Rattle.refusals.proofs.Rules.{first_accepts, part_refuses, part_accepts}
 use Rattle.recipe.specs.declared.Recipe.{Recipe}
 use Rattle.recipe.specs.Rules.{rule7, rule8, rule9, rule10, rule11, rule12}
 use Rattle.recipe.specs.Inner.{after_range}
-use borrow.Author.Rules.{rules}
 use Rattle.recipe.proofs.check_points.Goals as goal
 
 -- the rules in the parts that the code tries
@@ -34,11 +33,11 @@ returns-in_default-filled c =
 
 pub check_parts-requires : goal.check_parts-requires
 check_parts-requires c = record {
-      count_nonzero = c.requires;
-      recipe_value = first_accepts _ _
+  count_nonzero = c.requires;
+  recipe_value = first_accepts _ _
       (sym c.check_order-ordered.ensures
       ∙ c.in-Accepted.is);
-    }
+}
 
 pub returns : goal.returns
 unfolding after_range

@@ -1,6 +1,5 @@
 use Rattle.recipe.specs.Rules.{rule4}
 use Rattle.refusals.proofs.Verdicts.{line}
-use borrow.Author.Rules.{rules}
 use Rattle.recipe.proofs.check_ranges.Goals as goal
 
 pub returns : goal.returns

@@ -3,7 +3,6 @@ use Rattle.recipe.specs.Rules.{recipe_rules, check_recipe}
 use Rattle.recipe.specs.Inner.{after_range}
 use Rattle.refusals.proofs.Verdicts.{count_in_range}
 use Rattle.refusals.proofs.Rules.{refuses, accepts}
-use borrow.Author.Rules.{rules}
 use Rattle.recipe.proofs.check_recipe.Goals as goal
 
 pub returns-in_default : goal.returns-in_default

@@ -8,7 +8,6 @@ use Rattle.tables.proofs.KeptNumbers.{whole, broken, breaks_is, broken_few}
 use Rattle.recipe.specs.Rules.{check_recipe}
 use Rattle.recipe.specs.Reader.{recipe_names, judge_recipe, read_recipe}
 use Rattle.recipe.specs.Inner.{reading}
-use borrow.Author.Rules.{rules}
 use Rattle.recipe.proofs.read_recipe.Goals as goal
 
 pub returns-then-not-has_names : goal.returns-then-not-has_names

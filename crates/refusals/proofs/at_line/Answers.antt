@@ -1,6 +1,5 @@
 use borrow.Author.Tests.{lt-ltb, le-ltb}
 use Rattle.refusals.specs.Verdict.{line_verdict}
-use borrow.Author.Rules.{rules}
 use Rattle.refusals.proofs.at_line.Goals as goal
 
 pub returns-then-first-count : goal.returns-then-first-count

@@ -1,6 +1,5 @@
 use mathlib.Core.Path.{sym, ap}
 use Rattle.refusals.specs.Refusal.{number_of}
-use borrow.Author.Rules.{rules}
 use Rattle.refusals.proofs.number.Goals as goal
 
 pub returns-in-Names : goal.returns-in-Names

@@ -1,9 +1,7 @@
-use mathlib.Core.Path.{◌≡◌, refl, sym, ◌∙◌}
-use Prim.Native.Nat.{◌≤◌, ◌-◌}
+use mathlib.Core.Path.{refl, sym, ◌∙◌}
 use native.Mathlib.Omega.{arith}
 use Rattle.refusals.specs.Search.{first_below}
 use Rattle.refusals.proofs.Scan.{first_more, first_hit, first_end}
-use Rattle.cell.specs.Rules.{alike}
 use Rattle.cell.proofs.gates.find_alike.Goals as goal
 
 pub loop-k-init : goal.loop-k-init
@@ -12,9 +10,9 @@ loop-k-init c = (omega arith, refl)
 
 pub is_alike-requires : goal.is_alike-requires
 is_alike-requires c = record {
-      i_bound = omega arith;
-      k_bound = omega arith;
-    }
+  i_bound = omega arith;
+  k_bound = omega arith;
+}
 
 pub returns-then-is_alike : goal.returns-then-is_alike
 returns-then-is_alike c =

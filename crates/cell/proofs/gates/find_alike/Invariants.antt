@@ -1,8 +1,6 @@
-use mathlib.Core.Path.{◌≡◌, refl, sym, ◌∙◌}
+use mathlib.Core.Path.{◌≡◌}
 use Prim.Native.Nat.{◌≤◌, ◌-◌}
-use native.Mathlib.Omega.{arith}
 use Rattle.refusals.specs.Search.{first_below}
-use Rattle.refusals.proofs.Scan.{first_more, first_hit, first_end}
 use Rattle.cell.specs.Rules.{alike}
 use Rattle.cell.proofs.gates.find_alike.Given as goal
 

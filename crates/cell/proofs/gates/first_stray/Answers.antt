@@ -1,9 +1,7 @@
-use mathlib.Core.Path.{◌≡◌, refl, sym, ◌∙◌}
-use Prim.Native.Nat.{◌≤◌, ◌-◌}
+use mathlib.Core.Path.{refl, sym, ◌∙◌}
 use native.Mathlib.Omega.{arith}
 use Rattle.refusals.specs.Search.{first_below}
 use Rattle.refusals.proofs.Scan.{first_more, first_hit, first_end}
-use Rattle.cell.specs.Rules.{stray}
 use Rattle.cell.proofs.Strays.{no_gate}
 use Rattle.cell.proofs.gates.first_stray.Goals as goal
 
@@ -25,10 +23,10 @@ loop-i-preserved-then-act-i-ne4 c = (omega arith, first_more _ _ c.loop-i.invari
 
 pub is_stray-requires : goal.is_stray-requires
 is_stray-requires c = record {
-      count_bound = omega arith;
-      line_bound = omega arith;
-      line_value = c.if-act-i-ne4.false;
-    }
+  count_bound = omega arith;
+  line_bound = omega arith;
+  line_value = c.if-act-i-ne4.false;
+}
 
 pub returns-then-is_stray : goal.returns-then-is_stray
 returns-then-is_stray c =

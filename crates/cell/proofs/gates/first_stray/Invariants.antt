@@ -1,10 +1,7 @@
-use mathlib.Core.Path.{◌≡◌, refl, sym, ◌∙◌}
+use mathlib.Core.Path.{◌≡◌}
 use Prim.Native.Nat.{◌≤◌, ◌-◌}
-use native.Mathlib.Omega.{arith}
 use Rattle.refusals.specs.Search.{first_below}
-use Rattle.refusals.proofs.Scan.{first_more, first_hit, first_end}
 use Rattle.cell.specs.Rules.{stray}
-use Rattle.cell.proofs.Strays.{no_gate}
 use Rattle.cell.proofs.gates.first_stray.Given as goal
 
 abbrev pub invariant-loop-i : goal.invariant-loop-i

@@ -1,6 +1,5 @@
 use borrow.Author.Tests.{eq-eqb, ne_eqb}
 use Rattle.cell.specs.Rules.{alike}
-use borrow.Author.Rules.{rules}
 use Rattle.cell.proofs.gates.is_alike.Goals as goal
 
 pub returns-then-act-k : goal.returns-then-act-k

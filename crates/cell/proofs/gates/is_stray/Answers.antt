@@ -1,6 +1,5 @@
 use native.Mathlib.Omega.{arith}
 use Rattle.cell.proofs.Strays.{no_operation, with_operation}
-use borrow.Author.Rules.{rules}
 use Rattle.cell.proofs.gates.is_stray.Goals as goal
 
 pub returns-then-count-operation : goal.returns-then-count-operation

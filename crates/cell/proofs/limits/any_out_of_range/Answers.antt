@@ -1,10 +1,7 @@
-use mathlib.Core.Path.{◌≡◌, refl, sym}
-use mathlib.Core.Bool.{false}
-use Prim.Native.Nat.{◌≤◌, ◌-◌}
+use mathlib.Core.Path.{refl, sym}
 use native.Mathlib.Omega.{arith}
 use Rattle.refusals.specs.Search.{any_below}
 use Rattle.refusals.proofs.Scan.{any_more, any_hit, any_end}
-use Rattle.cell.specs.Rules.{limit_leaves_range}
 use Rattle.cell.proofs.StationLimits.{limit_low, limit_high, limit_fits}
 use Rattle.cell.proofs.limits.any_out_of_range.Goals as goal
 

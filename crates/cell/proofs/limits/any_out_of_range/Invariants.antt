@@ -1,11 +1,8 @@
-use mathlib.Core.Path.{◌≡◌, refl, sym}
+use mathlib.Core.Path.{◌≡◌}
 use mathlib.Core.Bool.{false}
 use Prim.Native.Nat.{◌≤◌, ◌-◌}
-use native.Mathlib.Omega.{arith}
 use Rattle.refusals.specs.Search.{any_below}
-use Rattle.refusals.proofs.Scan.{any_more, any_hit, any_end}
 use Rattle.cell.specs.Rules.{limit_leaves_range}
-use Rattle.cell.proofs.StationLimits.{limit_low, limit_high, limit_fits}
 use Rattle.cell.proofs.limits.any_out_of_range.Given as goal
 
 abbrev pub invariant-loop-k : goal.invariant-loop-k

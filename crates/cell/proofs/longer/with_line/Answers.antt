@@ -1,6 +1,5 @@
 use native.Mathlib.Numerals.{add-one}
 use Rattle.cell.specs.Longer.{with_line}
-use borrow.Author.Rules.{rules}
 use Rattle.cell.proofs.longer.with_line.Goals as goal
 
 pub returns : goal.returns

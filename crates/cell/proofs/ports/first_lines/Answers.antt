@@ -1,9 +1,8 @@
-use mathlib.Core.Path.{◌≡◌, refl}
-use Prim.Native.Nat.{◌-◌, ◌≤◌}
-use lib.ListN.{length, length-set}
+use mathlib.Core.Path.{refl}
+use Prim.Native.Nat.{◌-◌}
+use lib.ListN.{length-set}
 use native.Mathlib.Omega.{arith}
-use borrow.Author.Rules.{rules}
-use Rattle.cell.proofs.FirstOnPort.{Starts, starts_more}
+use Rattle.cell.proofs.FirstOnPort.{starts_more}
 use Rattle.cell.proofs.ports.first_lines.Goals as goal
 
 pub loop-n-init : goal.loop-n-init

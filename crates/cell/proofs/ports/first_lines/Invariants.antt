@@ -1,9 +1,7 @@
-use mathlib.Core.Path.{◌≡◌, refl}
-use Prim.Native.Nat.{◌-◌, ◌≤◌}
-use lib.ListN.{length, length-set}
-use native.Mathlib.Omega.{arith}
-use borrow.Author.Rules.{rules}
-use Rattle.cell.proofs.FirstOnPort.{Starts, starts_more}
+use mathlib.Core.Path.{◌≡◌}
+use Prim.Native.Nat.{◌≤◌}
+use lib.ListN.{length}
+use Rattle.cell.proofs.FirstOnPort.{Starts}
 use Rattle.cell.proofs.ports.first_lines.Given as goal
 
 abbrev pub invariant-loop-n : goal.invariant-loop-n

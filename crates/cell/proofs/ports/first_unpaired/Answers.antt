@@ -1,15 +1,12 @@
 use mathlib.Core.Path.{◌≡◌, refl, sym, ◌∙◌}
-use mathlib.Core.Logic.{⊎_elim}
 use mathlib.Core.Bool.{true, false}
-use Prim.Native.Nat.{◌≤◌, ◌-◌}
 use native.Mathlib.Omega.{arith}
 use lib.ListN.{get_or}
-use borrow.Author.Rules.{rules}
 use Rattle.refusals.specs.Search.{first_below}
 use Rattle.refusals.proofs.Scan.{first_more, first_hit}
-use Rattle.cell.specs.Rules.{other_act, partner, unpaired}
+use Rattle.cell.specs.Rules.{other_act, partner}
 use Rattle.cell.proofs.Partners.{neither, paired, alone}
-use Rattle.cell.proofs.FirstOnPort.{place, Passed, passed_start, passed_more, passed_end}
+use Rattle.cell.proofs.FirstOnPort.{place, passed_start, passed_more, passed_end}
 use Rattle.cell.proofs.ports.first_unpaired.Goals as goal
 use Rattle.cell.proofs.ports.first_unpaired.Goals.{in_default-via-then-kind-lt2, in_default-via-else-kind-lt2+else-kind-lt4}
 
@@ -91,8 +88,8 @@ lines-preserved c = (
   omega arith,
   first_more _ _ c.lines.invariant.1
       (elim c.in_default.branch [
-        in_default-via-then-kind-lt2 w ↦ neither _ _ _ _ _ (λ e. omega arith) (λ e. omega arith)
-      | in_default-via-else-kind-lt2+else-kind-lt4 w ↦ neither _ _ _ _ _ (λ e. omega arith) (λ e. omega arith)
+        | in_default-via-then-kind-lt2 w ↦ neither _ _ _ _ _ (λ e. omega arith) (λ e. omega arith)
+        | in_default-via-else-kind-lt2+else-kind-lt4 w ↦ neither _ _ _ _ _ (λ e. omega arith) (λ e. omega arith)
       ]),
 )
 

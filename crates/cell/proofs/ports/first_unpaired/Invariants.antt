@@ -1,15 +1,8 @@
-use mathlib.Core.Path.{◌≡◌, refl, sym, ◌∙◌}
-use mathlib.Core.Logic.{⊎_elim}
-use mathlib.Core.Bool.{true, false}
+use mathlib.Core.Path.{◌≡◌}
 use Prim.Native.Nat.{◌≤◌, ◌-◌}
-use native.Mathlib.Omega.{arith}
-use lib.ListN.{get_or}
-use borrow.Author.Rules.{rules}
 use Rattle.refusals.specs.Search.{first_below}
-use Rattle.refusals.proofs.Scan.{first_more, first_hit}
-use Rattle.cell.specs.Rules.{other_act, partner, unpaired}
-use Rattle.cell.proofs.Partners.{neither, paired, alone}
-use Rattle.cell.proofs.FirstOnPort.{place, Passed, passed_start, passed_more, passed_end}
+use Rattle.cell.specs.Rules.{unpaired}
+use Rattle.cell.proofs.FirstOnPort.{Passed}
 use Rattle.cell.proofs.ports.first_unpaired.Given as goal
 
 abbrev pub invariant-loop-k : goal.invariant-loop-k

@@ -1,7 +1,6 @@
 use mathlib.Core.Path.{sym, ◌∙◌}
 use borrow.Author.Tests.{eq-eqb, ne_eqb}
 use Rattle.cell.specs.Rules.{partner}
-use borrow.Author.Rules.{rules}
 use Rattle.cell.proofs.ports.pairs.Goals as goal
 
 pub returns-then-arg-k : goal.returns-then-arg-k

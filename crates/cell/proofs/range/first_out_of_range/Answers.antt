@@ -1,8 +1,6 @@
 use mathlib.Core.Path.{◌≡◌, refl, sym, ap, ◌∙◌}
 use mathlib.Core.Bool.{not}
-use Prim.Native.Nat.{◌≤◌, ◌-◌}
 use native.Mathlib.Omega.{arith}
-use borrow.Author.Rules.{rules}
 use Rattle.refusals.specs.Search.{first_below}
 use Rattle.refusals.proofs.Scan.{first_more, first_hit}
 use Rattle.cell.specs.Rules.{in_range, leaves_range}

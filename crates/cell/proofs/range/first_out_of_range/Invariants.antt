@@ -1,11 +1,7 @@
-use mathlib.Core.Path.{◌≡◌, refl, sym, ap, ◌∙◌}
-use mathlib.Core.Bool.{not}
+use mathlib.Core.Path.{◌≡◌}
 use Prim.Native.Nat.{◌≤◌, ◌-◌}
-use native.Mathlib.Omega.{arith}
-use borrow.Author.Rules.{rules}
 use Rattle.refusals.specs.Search.{first_below}
-use Rattle.refusals.proofs.Scan.{first_more, first_hit}
-use Rattle.cell.specs.Rules.{in_range, leaves_range}
+use Rattle.cell.specs.Rules.{leaves_range}
 use Rattle.cell.proofs.range.first_out_of_range.Given as goal
 
 abbrev pub invariant-loop-i : goal.invariant-loop-i

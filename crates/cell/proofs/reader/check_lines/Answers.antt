@@ -1,6 +1,5 @@
 use Rattle.refusals.proofs.Rules.{decides, part_refuses, part_accepts}
 use Rattle.cell.specs.Inner.{port_rules, after_range}
-use borrow.Author.Rules.{rules}
 use Rattle.cell.proofs.reader.check_lines.Goals as goal
 
 pub returns-in_default : goal.returns-in_default

@@ -7,7 +7,6 @@ use Rattle.cell.specs.Rules.{cell_rules, check_cell}
 use Rattle.cell.specs.Reader.{cell_of}
 use Rattle.cell.specs.Inner.{reading, after_range}
 use Rattle.cell.proofs.StationLimits.{eights_pass}
-use borrow.Author.Rules.{rules}
 use Rattle.cell.proofs.reader.read_lines.Goals as goal
 
 pub store_lines-requires : goal.store_lines-requires

@@ -5,7 +5,6 @@ use Rattle.cell.specs.declared.Cell.{Cell}
 use Rattle.cell.specs.Reader.{cell_of}
 use Rattle.cell.specs.Inner.{reading, after_range}
 use Rattle.cell.proofs.RecordFields.{stored_out, stored_cell, stored_fine}
-use borrow.Author.Rules.{rules}
 use Rattle.cell.proofs.reader.store_lines.Goals as goal
 
 pub returns-then-tos-count : goal.returns-then-tos-count

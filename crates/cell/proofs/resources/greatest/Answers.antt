@@ -1,6 +1,4 @@
 use mathlib.Core.Path.{◌≡◌, refl, sym, ◌∙◌}
-use mathlib.Core.Logic.{⊎_elim}
-use Prim.Native.Nat.{◌≤◌, ◌-◌}
 use native.Mathlib.Omega.{arith}
 use Rattle.refusals.specs.Search.{greatest_below}
 use Rattle.refusals.proofs.Scan.{greatest_more, greatest_same}
@@ -29,8 +27,8 @@ unfolding greatest_resource
 loop-i-preserved c = (
   omega arith,
   elim c.if-most-resource.branch [
-    then-most-resource w ↦ rw w.most-is (greatest_more _ _ (omega (arith, c.loop-i.invariant.1, w.if-most-resource.true)))
-  | else-most-resource w ↦ rw w.most-is (greatest_same _ _ (omega (arith, c.loop-i.invariant.1, w.if-most-resource.false)) ∙ c.loop-i.invariant.1)
+    | then-most-resource w ↦ rw w.most-is (greatest_more _ _ (omega (arith, c.loop-i.invariant.1, w.if-most-resource.true)))
+    | else-most-resource w ↦ rw w.most-is (greatest_same _ _ (omega (arith, c.loop-i.invariant.1, w.if-most-resource.false)) ∙ c.loop-i.invariant.1)
   ],
 )
 

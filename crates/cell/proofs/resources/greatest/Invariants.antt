@@ -1,9 +1,5 @@
-use mathlib.Core.Path.{◌≡◌, refl, sym, ◌∙◌}
-use mathlib.Core.Logic.{⊎_elim}
+use mathlib.Core.Path.{◌≡◌}
 use Prim.Native.Nat.{◌≤◌, ◌-◌}
-use native.Mathlib.Omega.{arith}
-use Rattle.refusals.specs.Search.{greatest_below}
-use Rattle.refusals.proofs.Scan.{greatest_more, greatest_same}
 use Rattle.cell.specs.Rules.{greatest_resource}
 use Rattle.cell.proofs.resources.greatest.Given as goal
 

@@ -1,11 +1,8 @@
-use mathlib.Core.Path.{◌≡◌, refl, sym, ap, ◌∙◌}
-use mathlib.Core.Bool.{false, not}
+use mathlib.Core.Path.{◌≡◌}
+use mathlib.Core.Bool.{false}
 use Prim.Native.Nat.{◌≤◌, ◌-◌}
-use native.Mathlib.Omega.{arith}
-use borrow.Author.Rules.{rules}
 use Rattle.refusals.specs.Search.{any_below}
-use Rattle.refusals.proofs.Scan.{any_more, any_hit}
-use Rattle.cell.specs.Rules.{has_no_line, gap}
+use Rattle.cell.specs.Rules.{has_no_line}
 use Rattle.cell.proofs.resources.has_gap.Given as goal
 
 abbrev pub invariant-loop-k : goal.invariant-loop-k

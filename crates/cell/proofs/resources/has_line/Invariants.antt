@@ -1,10 +1,7 @@
-use mathlib.Core.Path.{◌≡◌, refl, sym}
+use mathlib.Core.Path.{◌≡◌}
 use mathlib.Core.Bool.{false}
 use Prim.Native.Nat.{◌≤◌, ◌-◌}
-use native.Mathlib.Omega.{arith}
-use borrow.Author.Tests.{eq-eqb, ne_eqb}
 use Rattle.refusals.specs.Search.{any_below, is_of}
-use Rattle.refusals.proofs.Scan.{any_more, any_hit}
 use Rattle.cell.proofs.resources.has_line.Given as goal
 
 abbrev pub invariant-loop-i : goal.invariant-loop-i

@@ -3,7 +3,6 @@ use Prim.Native.Nat.{ℕ}
 use Rattle.chapters.specs.Records.{chapters_from}
 use Rattle.chapters.specs.Survey.{SeesAt}
 use Rattle.chapters.proofs.AcceptedChapters.{seen_at}
-use borrow.Author.Rules.{rules}
 use Rattle.chapters.proofs.counts.look_at.Goals as goal
 
 pub returns-then-k-wanted : goal.returns-then-k-wanted

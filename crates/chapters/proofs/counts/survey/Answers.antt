@@ -1,5 +1,5 @@
 use mathlib.Core.Path.{◌≡◌, sym, ap₂, ◌∙◌}
-use Prim.Native.Nat.{◌-◌, ◌<◌}
+use Prim.Native.Nat.{◌<◌}
 use native.Mathlib.Numerals.{add-one}
 use native.Mathlib.Omega.{arith}
 use lib.ListN.{length}
@@ -11,11 +11,10 @@ use Rattle.chapters.specs.Joined.{chapter_at, is_earlier}
 use Rattle.chapters.specs.Sizes.{points_at}
 use Rattle.chapters.specs.Rules.{chapter_rules, chapters_rules}
 use Rattle.chapters.specs.Records.{chapters_from}
-use Rattle.chapters.specs.Survey.{SeesAt, counted_with}
+use Rattle.chapters.specs.Survey.{counted_with}
 use Rattle.chapters.proofs.RulesInTurn.{turn_refuses}
 use Rattle.chapters.proofs.AcceptedChapters.{chapter_accepted}
-use Rattle.chapters.proofs.CountedChapters.{SoFar, counted_none, room, counted_next, counted_all, not_counted}
-use borrow.Author.Rules.{rules}
+use Rattle.chapters.proofs.CountedChapters.{counted_none, room, counted_next, counted_all, not_counted}
 use Rattle.chapters.proofs.counts.survey.Goals as goal
 
 pub loop-k-init : goal.loop-k-init

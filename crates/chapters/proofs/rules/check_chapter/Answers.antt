@@ -1,5 +1,4 @@
 use mathlib.Core.Path.{◌≡◌, refl, sym, ◌∙◌}
-use mathlib.Core.Logic.{⊎_elim}
 use mathlib.Core.Bool.{Bool, cond}
 use Prim.Native.Nat.{◌<◌}
 use native.Mathlib.Omega.{arith}
@@ -16,7 +15,6 @@ use Rattle.positions.proofs.SizeBounds.{point_below}
 use Rattle.steps.specs.Lines.{kind_of}
 use Rattle.reached.specs.Reached.{rule22}
 use Rattle.chapters.specs.Rules.{rule24_joint, chapter_rules}
-use borrow.Author.Rules.{rules}
 use Rattle.chapters.proofs.rules.check_chapter.Goals as goal
 use Rattle.chapters.proofs.rules.check_chapter.Goals.{then-plans+in-Accepted-reached, else-plans}
 

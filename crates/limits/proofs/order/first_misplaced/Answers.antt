@@ -1,9 +1,7 @@
-use mathlib.Core.Path.{◌≡◌, refl, sym, ◌∙◌}
-use Prim.Native.Nat.{◌+◌, ◌≤◌, ◌-◌}
+use mathlib.Core.Path.{refl, sym, ◌∙◌}
 use native.Mathlib.Omega.{arith}
 use Rattle.refusals.specs.Search.{first_below}
 use Rattle.refusals.proofs.Scan.{first_more, first_hit, first_end}
-use Rattle.limits.specs.Reader.{misplaced}
 use Rattle.limits.proofs.order.first_misplaced.Goals as goal
 
 pub loop-n-init : goal.loop-n-init

@@ -1,6 +1,5 @@
 use mathlib.Core.Path.{sym}
 use Rattle.limits.proofs.LineOrder.{above, first_line, later_line}
-use borrow.Author.Rules.{rules}
 use Rattle.limits.proofs.order.is_misplaced.Goals as goal
 
 pub returns-then-greatest-resource : goal.returns-then-greatest-resource

@@ -1,6 +1,5 @@
 use mathlib.Core.Path.{◌∙◌}
 use Rattle.limits.proofs.LimitedRecord.{order_broken, order_kept}
-use borrow.Author.Rules.{rules}
 use Rattle.limits.proofs.reader.judged.Goals as goal
 
 pub returns-then-first-count : goal.returns-then-first-count

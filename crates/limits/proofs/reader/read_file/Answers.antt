@@ -6,7 +6,6 @@ use Rattle.tables.specs.Table.{rule1, rule2}
 use Rattle.tables.proofs.NamesLine.{starts_named}
 use Rattle.tables.proofs.KeptNumbers.{whole, broken, breaks_is, broken_few}
 use Rattle.limits.specs.Reader.{limits_names, file_rules}
-use borrow.Author.Rules.{rules}
 use Rattle.limits.proofs.reader.read_file.Goals as goal
 
 pub returns-then-not-has_names : goal.returns-then-not-has_names

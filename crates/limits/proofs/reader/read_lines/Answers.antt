@@ -2,7 +2,6 @@ use mathlib.Core.Path.{◌≡◌, sym, ◌∙◌}
 use Rattle.refusals.specs.declared.Verdict.TheVariants.{Accepted}
 use Rattle.refusals.specs.Verdict.{first_refusal, rule3}
 use Rattle.refusals.proofs.Verdicts.{count_in_range}
-use borrow.Author.Rules.{rules}
 use Rattle.limits.proofs.reader.read_lines.Goals as goal
 
 pub store_lines-requires : goal.store_lines-requires

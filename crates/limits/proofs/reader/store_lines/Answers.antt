@@ -4,7 +4,6 @@ use Rattle.cell.specs.Rules.{resource_count}
 use Rattle.limits.specs.Reader.{rule20}
 use Rattle.limits.specs.Inner.{reading}
 use Rattle.limits.proofs.FileLines.{range_broken, range_kept, resources_are, mosts_are}
-use borrow.Author.Rules.{rules}
 use Rattle.limits.proofs.reader.store_lines.Goals as goal
 
 pub returns-then-mosts-count : goal.returns-then-mosts-count

@@ -1,8 +1,6 @@
 use mathlib.Core.Path.{◌≡◌, refl, ◌∙◌}
-use mathlib.Core.List.{◌++◌}
-use Prim.Native.Nat.{◌≤◌, ◌-◌}
 use native.Mathlib.Omega.{arith}
-use lib.ListN.{length, drop, replicate, length-set}
+use lib.ListN.{replicate, length-set}
 use Rattle.refusals.specs.Search.{tabulate}
 use Rattle.refusals.proofs.TabulatedLists.{fill, filled}
 use Rattle.limits.specs.Reader.{limit_by}

@@ -1,10 +1,6 @@
-use mathlib.Core.Path.{◌≡◌, refl, sym}
+use mathlib.Core.Path.{◌≡◌}
 use Prim.Native.Nat.{◌≤◌, ◌-◌}
-use native.Mathlib.Omega.{arith}
-use borrow.Author.Tests.{eq-eqb, ne_eqb}
 use Rattle.refusals.specs.Search.{first_below, is_of}
-use Rattle.refusals.proofs.Scan.{first_more}
-use Rattle.limits.proofs.LineLimits.{limit_found, limit_none}
 use Rattle.limits.proofs.station.limit_of.Given as goal
 
 abbrev pub invariant-loop-n : goal.invariant-loop-n

@@ -1,7 +1,6 @@
 use mathlib.Core.Path.{sym, ◌∙◌}
 use borrow.Author.Tests.{not-true, not-false, lt-ltb, le-ltb}
 use Rattle.positions.specs.Rules.{is_position, state_fits, place_fits}
-use borrow.Author.Rules.{rules}
 use Rattle.positions.proofs.range.is_position.Goals as goal
 
 pub returns-then-sizes-point : goal.returns-then-sizes-point

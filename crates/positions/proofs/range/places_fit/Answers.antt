@@ -1,9 +1,7 @@
 use mathlib.Core.Path.{◌≡◌, refl, sym, ap, ◌∙◌}
-use mathlib.Core.Logic.{⊎_elim}
-use mathlib.Core.Bool.{true, cond}
-use Prim.Native.Nat.{◌≤◌, ◌+◌, ◌-◌}
+use mathlib.Core.Bool.{cond}
+use Prim.Native.Nat.{◌+◌}
 use native.Mathlib.Omega.{arith}
-use lib.ListN.{get_or}
 use lib.Dec.{ltb}
 use borrow.Author.Tests.{not-true, not-false, lt-ltb, le-ltb}
 use Rattle.refusals.specs.Search.{all_below}
@@ -38,12 +36,11 @@ loop-n-smaller c = omega arith
 pub loop-n-preserved : goal.loop-n-preserved
 loop-n-preserved c =
     let places-c : c.if-n-parts.places ≡ cond (ltb c.loop-n.n c.args.sizes.parts) (c.args.sizes.resources + 1) 1 =
-    elim c.if-n-parts.branch [ then-n-parts w ↦ rw (lt-ltb _ _ w.if-n-parts.true) w.places-is | else-n-parts w ↦ rw (le-ltb _ _ w.if-n-parts.false) w.places-is ] in
-    (
-  omega arith,
-  all_more _ _ c.loop-n.invariant.1
-      (sym (ap (ltb _) places-c) ∙ sym c.below.ensures ∙ not-false _ c.if-not-below.false-raw),
-)
+    elim c.if-n-parts.branch [ then-n-parts w ↦ rw (lt-ltb _ _ w.if-n-parts.true) w.places-is | else-n-parts w ↦ rw (le-ltb _ _ w.if-n-parts.false) w.places-is ] in (
+      omega arith,
+      all_more _ _ c.loop-n.invariant.1
+          (sym (ap (ltb _) places-c) ∙ sym c.below.ensures ∙ not-false _ c.if-not-below.false-raw),
+    )
 
 pub returns : goal.returns
 unfolding place_fits place_count

@@ -1,14 +1,9 @@
-use mathlib.Core.Path.{◌≡◌, refl, sym, ap, ◌∙◌}
-use mathlib.Core.Logic.{⊎_elim}
+use mathlib.Core.Path.{◌≡◌}
 use mathlib.Core.Bool.{true, cond}
 use Prim.Native.Nat.{◌≤◌, ◌+◌, ◌-◌}
-use native.Mathlib.Omega.{arith}
 use lib.ListN.{get_or}
 use lib.Dec.{ltb}
-use borrow.Author.Tests.{not-true, not-false, lt-ltb, le-ltb}
 use Rattle.refusals.specs.Search.{all_below}
-use Rattle.refusals.proofs.EveryBelow.{all_more, all_fails, all_end}
-use Rattle.positions.specs.Rules.{place_count, place_fits}
 use Rattle.positions.proofs.range.places_fit.Given as goal
 
 abbrev pub invariant-loop-n : goal.invariant-loop-n

@@ -1,13 +1,9 @@
-use mathlib.Core.Path.{◌≡◌, refl, sym, ◌∙◌}
+use mathlib.Core.Path.{◌≡◌}
 use mathlib.Core.Bool.{true}
 use Prim.Native.Nat.{◌≤◌, ◌-◌}
-use native.Mathlib.Omega.{arith}
 use lib.ListN.{get_or}
 use lib.Dec.{ltb}
-use borrow.Author.Tests.{not-true, not-false}
 use Rattle.refusals.specs.Search.{all_below}
-use Rattle.refusals.proofs.EveryBelow.{all_more, all_fails, all_end}
-use Rattle.positions.specs.Rules.{state_fits}
 use Rattle.positions.proofs.range.states_fit.Given as goal
 
 abbrev pub invariant-loop-k : goal.invariant-loop-k

@@ -1,13 +1,11 @@
-use mathlib.Core.Path.{◌≡◌, refl, sym, ◌∙◌}
+use mathlib.Core.Path.{◌≡◌}
 use Prim.Native.Nat.{◌≤◌, ◌-◌}
-use native.Mathlib.Omega.{arith}
 use Rattle.refusals.specs.Search.{first_below}
-use Rattle.refusals.proofs.Scan.{first_more, first_hit, first_end}
-use Rattle.recipe.specs.Rules.{has_unused, breaks_unused}
+use Rattle.recipe.specs.Rules.{breaks_unused}
 use Rattle.recipe.proofs.fields.first_unused.Given as goal
 
 abbrev pub invariant-loop-i : goal.invariant-loop-i
-invariant-loop-i l =     (l.i ≤ l.recipe.count)
+invariant-loop-i l = (l.i ≤ l.recipe.count)
     ×
     (first_below
     (breaks_unused l.recipe.kind l.recipe.op l.recipe.takes l.recipe.gives l.recipe.then l.recipe.otherwise) l.i ≡ l.i)

@@ -1,11 +1,9 @@
 use Rattle.recipe.proofs.PointOrder.{ordered_to}
-use mathlib.Core.Path.{◌≡◌, refl, sym, ◌∙◌}
-use Prim.Native.Nat.{◌≤◌, ◌-◌}
+use mathlib.Core.Path.{refl, sym, ◌∙◌}
 use native.Mathlib.Omega.{arith}
 use Rattle.refusals.specs.Search.{first_below}
 use Rattle.refusals.proofs.Scan.{first_more, first_hit}
 use Rattle.refusals.proofs.Scan.{first_end}
-use Rattle.recipe.specs.Inner.{breaks_common}
 use Rattle.recipe.proofs.parts.first_common.Goals as goal
 
 pub loop-i-init : goal.loop-i-init
@@ -14,9 +12,9 @@ loop-i-init c = (omega arith, refl)
 
 pub shares_before-requires : goal.shares_before-requires
 shares_before-requires c = record {
-      n_bound = omega arith;
-      n_value = ordered_to _ _ c.requires.count_value _ c.loop-i-test.true;
-    }
+  n_bound = omega arith;
+  n_value = ordered_to _ _ c.requires.count_value _ c.loop-i-test.true;
+}
 
 pub returns-then-shares_before : goal.returns-then-shares_before
 returns-then-shares_before c =

@@ -1,10 +1,6 @@
-use Rattle.recipe.proofs.PointOrder.{ordered_to}
-use mathlib.Core.Path.{◌≡◌, refl, sym, ◌∙◌}
+use mathlib.Core.Path.{◌≡◌}
 use Prim.Native.Nat.{◌≤◌, ◌-◌}
-use native.Mathlib.Omega.{arith}
 use Rattle.refusals.specs.Search.{first_below}
-use Rattle.refusals.proofs.Scan.{first_more, first_hit}
-use Rattle.refusals.proofs.Scan.{first_end}
 use Rattle.recipe.specs.Inner.{breaks_common}
 use Rattle.recipe.proofs.parts.first_common.Given as goal
 

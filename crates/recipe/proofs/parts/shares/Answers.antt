@@ -1,5 +1,4 @@
 use mathlib.Core.Path.{sym, ◌∙◌}
-use borrow.Author.Rules.{rules}
 use Rattle.recipe.proofs.parts.shares.Goals as goal
 
 pub returns-then-common : goal.returns-then-common

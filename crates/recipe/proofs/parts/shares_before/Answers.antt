@@ -1,18 +1,14 @@
-use mathlib.Core.Path.{◌≡◌, sym, ◌∙◌}
-use mathlib.Core.Bool.{false}
-use Prim.Native.Nat.{◌≤◌, ◌-◌}
+use mathlib.Core.Path.{sym, ◌∙◌}
 use native.Mathlib.Omega.{arith}
-use Rattle.refusals.specs.Search.{any_below}
 use Rattle.refusals.proofs.Scan.{any_more, any_hit, any_end}
-use Rattle.recipe.specs.Rules.{shares_part}
 use Rattle.recipe.proofs.PointOrder.{none_shares, shares_at}
 use Rattle.recipe.proofs.parts.shares_before.Goals as goal
 
 pub point_start-k-requires : goal.point_start-k-requires
 point_start-k-requires c = record {
-      n_bound = c.requires.n_bound;
-      n_value = (c.requires.n_value);
-    }
+  n_bound = c.requires.n_bound;
+  n_value = (c.requires.n_value);
+}
 
 pub loop-k-init : goal.loop-k-init
 loop-k-init c = let found = c.point_start-k.ensures in (omega arith, found.0, none_shares _ _ _ found.0 found.1 _ _)

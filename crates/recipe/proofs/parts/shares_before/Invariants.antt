@@ -1,11 +1,8 @@
-use mathlib.Core.Path.{◌≡◌, sym, ◌∙◌}
+use mathlib.Core.Path.{◌≡◌}
 use mathlib.Core.Bool.{false}
 use Prim.Native.Nat.{◌≤◌, ◌-◌}
-use native.Mathlib.Omega.{arith}
 use Rattle.refusals.specs.Search.{any_below}
-use Rattle.refusals.proofs.Scan.{any_more, any_hit, any_end}
 use Rattle.recipe.specs.Rules.{shares_part}
-use Rattle.recipe.proofs.PointOrder.{none_shares, shares_at}
 use Rattle.recipe.proofs.parts.shares_before.Given as goal
 
 abbrev pub invariant-loop-k : goal.invariant-loop-k

@@ -1,8 +1,7 @@
 use mathlib.Core.Path.{◌≡◌, sym, ap, ◌∙◌}
-use mathlib.Core.Bool.{false}
-use Prim.Native.Nat.{◌≤◌, ◌-◌}
+use Prim.Native.Nat.{◌-◌}
 use native.Mathlib.Omega.{arith}
-use Rattle.refusals.specs.Search.{any_below, count_below}
+use Rattle.refusals.specs.Search.{count_below}
 use Rattle.refusals.proofs.Scan.{any_more, any_hit, any_end}
 use lib.Dec.{leb}
 use Rattle.recipe.specs.Rules.{breaks_repeat, clashes}
@@ -12,9 +11,9 @@ use Rattle.recipe.proofs.points.bad_repeat.Goals as goal
 
 pub point_start-start-requires : goal.point_start-start-requires
 point_start-start-requires c = record {
-      n_bound = c.requires.n_bound;
-      n_value = (c.requires.n_value);
-    }
+  n_bound = c.requires.n_bound;
+  n_value = (c.requires.n_value);
+}
 
 pub loop-k-init : goal.loop-k-init
 loop-k-init c = let found = c.point_start-start.ensures in (omega arith, found.0, none_clashes _ _ _ found.0 found.1 _ _)

@@ -1,10 +1,8 @@
 use Rattle.recipe.proofs.PointOrder.{ordered_to}
-use mathlib.Core.Path.{◌≡◌, refl, sym, ◌∙◌}
-use Prim.Native.Nat.{◌≤◌, ◌-◌}
+use mathlib.Core.Path.{refl, sym, ◌∙◌}
 use native.Mathlib.Omega.{arith}
 use Rattle.refusals.specs.Search.{first_below}
 use Rattle.refusals.proofs.Scan.{first_more, first_hit}
-use Rattle.recipe.specs.Rules.{breaks_repeat}
 use Rattle.refusals.proofs.Scan.{first_end}
 use Rattle.recipe.proofs.points.first_bad_repeat.Goals as goal
 
@@ -14,9 +12,9 @@ loop-i-init c = (omega arith, refl)
 
 pub bad_repeat-requires : goal.bad_repeat-requires
 bad_repeat-requires c = record {
-      n_bound = omega arith;
-      n_value = ordered_to _ _ c.requires.count_value _ c.loop-i-test.true;
-    }
+  n_bound = omega arith;
+  n_value = ordered_to _ _ c.requires.count_value _ c.loop-i-test.true;
+}
 
 pub returns-then-bad_repeat : goal.returns-then-bad_repeat
 returns-then-bad_repeat c =

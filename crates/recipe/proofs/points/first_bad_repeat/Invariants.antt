@@ -1,11 +1,7 @@
-use Rattle.recipe.proofs.PointOrder.{ordered_to}
-use mathlib.Core.Path.{◌≡◌, refl, sym, ◌∙◌}
+use mathlib.Core.Path.{◌≡◌}
 use Prim.Native.Nat.{◌≤◌, ◌-◌}
-use native.Mathlib.Omega.{arith}
 use Rattle.refusals.specs.Search.{first_below}
-use Rattle.refusals.proofs.Scan.{first_more, first_hit}
 use Rattle.recipe.specs.Rules.{breaks_repeat}
-use Rattle.refusals.proofs.Scan.{first_end}
 use Rattle.recipe.proofs.points.first_bad_repeat.Given as goal
 
 abbrev pub invariant-loop-i : goal.invariant-loop-i

@@ -1,10 +1,7 @@
-use mathlib.Core.Path.{◌≡◌, refl, sym, ◌∙◌}
+use mathlib.Core.Path.{◌≡◌}
 use Prim.Native.Nat.{◌≤◌, ◌-◌}
-use native.Mathlib.Omega.{arith}
 use Rattle.refusals.specs.Search.{first_below}
-use Rattle.refusals.proofs.Scan.{first_more, first_hit}
 use Rattle.recipe.specs.Rules.{breaks_order}
-use Rattle.refusals.proofs.Scan.{first_end}
 use Rattle.recipe.proofs.points.first_out_of_order.Given as goal
 
 abbrev pub invariant-loop-i : goal.invariant-loop-i

@@ -1,5 +1,4 @@
 use borrow.Author.Tests.{eq-eqb, ne_eqb}
-use borrow.Author.Rules.{rules}
 use Rattle.recipe.proofs.points.follows.Goals as goal
 
 pub returns-then-point-last : goal.returns-then-point-last

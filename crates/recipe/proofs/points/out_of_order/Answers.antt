@@ -2,7 +2,6 @@ use mathlib.Core.Path.{sym, ap, ◌∙◌}
 use mathlib.Core.Bool.{not}
 use Rattle.recipe.specs.Rules.{breaks_order}
 use Rattle.recipe.proofs.PointOrder.{order_next}
-use borrow.Author.Rules.{rules}
 use Rattle.recipe.proofs.points.out_of_order.Goals as goal
 
 pub returns-then-n-eq0 : goal.returns-then-n-eq0

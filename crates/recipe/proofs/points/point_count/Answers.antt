@@ -1,6 +1,5 @@
 use mathlib.Core.Path.{◌∙◌}
 use Rattle.recipe.proofs.PointOrder.{last_point}
-use borrow.Author.Rules.{rules}
 use Rattle.recipe.proofs.points.point_count.Goals as goal
 
 pub returns : goal.returns

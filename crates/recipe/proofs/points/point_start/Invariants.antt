@@ -1,8 +1,6 @@
-use mathlib.Core.Path.{◌≡◌, refl}
-use Prim.Native.Nat.{◌≤◌, ◌<◌, ◌+◌}
-use native.Mathlib.Omega.{arith}
+use mathlib.Core.Path.{◌≡◌}
+use Prim.Native.Nat.{◌≤◌}
 use lib.ListN.{get_or}
-use Rattle.recipe.proofs.PointOrder.{same_from}
 use Rattle.recipe.proofs.points.point_start.Given as goal
 
 abbrev pub invariant-loop-start : goal.invariant-loop-start

@@ -1,7 +1,6 @@
 use mathlib.Core.Path.{sym, ◌∙◌}
 use Rattle.refusals.specs.Verdict.{if_accepted}
 use Rattle.recipe.specs.Inner.{reading}
-use borrow.Author.Rules.{rules}
 use Rattle.recipe.proofs.reader.judged.Goals as goal
 
 pub returns-in-Accepted : goal.returns-in-Accepted

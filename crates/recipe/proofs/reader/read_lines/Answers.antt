@@ -5,7 +5,6 @@ use Rattle.refusals.proofs.Verdicts.{count_in_range}
 use Rattle.recipe.specs.Rules.{recipe_rules, check_recipe}
 use Rattle.recipe.specs.Reader.{recipe_of}
 use Rattle.recipe.specs.Inner.{reading, after_range}
-use borrow.Author.Rules.{rules}
 use Rattle.recipe.proofs.reader.read_lines.Goals as goal
 
 pub store_lines-requires : goal.store_lines-requires

@@ -6,7 +6,6 @@ use Rattle.recipe.specs.declared.Recipe.{Recipe}
 use Rattle.recipe.specs.Reader.{recipe_of}
 use Rattle.recipe.specs.Inner.{reading, after_range}
 use Rattle.recipe.proofs.RecordFields.{stored_out, stored_recipe, stored_fine}
-use borrow.Author.Rules.{rules}
 use Rattle.recipe.proofs.reader.store_lines.Goals as goal
 
 pub overflow_add-others : goal.overflow_add-others

@@ -1,9 +1,7 @@
 use native.Mathlib.Omega.{arith}
-use mathlib.Core.Path.{◌≡◌, refl, sym, ◌∙◌}
-use Prim.Native.Nat.{◌≤◌, ◌-◌}
+use mathlib.Core.Path.{refl, sym, ◌∙◌}
 use Rattle.refusals.specs.Search.{first_below}
 use Rattle.refusals.proofs.Scan.{first_more, first_hit, first_end}
-use Rattle.recipe.specs.Inner.{breaks_target}
 use Rattle.recipe.proofs.targets.first_leading_out.Goals as goal
 
 pub loop-i-init : goal.loop-i-init

@@ -1,8 +1,6 @@
-use native.Mathlib.Omega.{arith}
-use mathlib.Core.Path.{◌≡◌, refl, sym, ◌∙◌}
+use mathlib.Core.Path.{◌≡◌}
 use Prim.Native.Nat.{◌≤◌, ◌-◌}
 use Rattle.refusals.specs.Search.{first_below}
-use Rattle.refusals.proofs.Scan.{first_more, first_hit, first_end}
 use Rattle.recipe.specs.Inner.{breaks_target}
 use Rattle.recipe.proofs.targets.first_leading_out.Given as goal
 

@@ -1,12 +1,8 @@
-use mathlib.Core.Path.{◌≡◌, refl, ap, ◌∙◌}
-use mathlib.Core.List.{◌++◌, append-nil}
-use Prim.Native.Nat.{ℕ, ◌+◌, ◌*◌, ◌-◌, ◌≤◌}
-use native.Mathlib.Omega.{arith}
+use mathlib.Core.Path.{◌≡◌}
+use mathlib.Core.List.{◌++◌}
+use Prim.Native.Nat.{◌+◌, ◌*◌, ◌-◌, ◌≤◌}
 use lib.ListN.{get_or, drop, replicate}
 use Rattle.refusals.specs.Search.{tabulate}
-use Rattle.refusals.proofs.TabulatedLists.{fill}
-use Rattle.records.specs.Encoding.{column_of}
-use Rattle.records.proofs.ByteRows.{row_inside}
 use Rattle.records.proofs.get.column.Given as goal
 
 abbrev pub invariant-loop-n : goal.invariant-loop-n

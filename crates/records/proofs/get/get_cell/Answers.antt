@@ -1,7 +1,6 @@
 use lib.ListN.{length}
 use borrow.Author.Tests.{lt-ltb, le-ltb}
 use Rattle.records.specs.Encoding.{cell_from}
-use borrow.Author.Rules.{rules}
 use Rattle.records.proofs.get.get_cell.Goals as goal
 
 pub returns-then-bytes-lt327 : goal.returns-then-bytes-lt327

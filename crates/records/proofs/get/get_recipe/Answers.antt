@@ -2,7 +2,6 @@ use mathlib.Core.Path.{◌∙◌}
 use lib.ListN.{length}
 use borrow.Author.Tests.{lt-ltb, le-ltb}
 use Rattle.records.specs.Encoding.{recipe_from}
-use borrow.Author.Rules.{rules}
 use Rattle.records.proofs.get.get_recipe.Goals as goal
 
 pub returns-then-bytes-lt449 : goal.returns-then-bytes-lt449

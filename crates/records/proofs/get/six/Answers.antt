@@ -1,6 +1,5 @@
 use native.Mathlib.Nat.{add-zero}
 use Rattle.refusals.specs.Search.{tabulate}
-use borrow.Author.Rules.{rules}
 use Rattle.records.proofs.get.six.Goals as goal
 
 pub returns : goal.returns

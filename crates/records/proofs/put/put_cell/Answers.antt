@@ -1,6 +1,6 @@
 use lib.ListN.{set}
-use Prim.Native.Nat.{ℕ, ◌-◌, ◌≤◌}
-use mathlib.Core.Path.{◌≡◌, refl, sym, ap, ◌∙◌}
+use Prim.Native.Nat.{ℕ}
+use mathlib.Core.Path.{◌≡◌, refl, ap, ◌∙◌}
 use mathlib.Core.List.{◌∷◌}
 use native.Mathlib.Omega.{arith}
 use lib.ListN.{length, get_or, length-set}
@@ -8,7 +8,7 @@ use lib.Seq.{sets}
 use Rattle.refusals.proofs.TabulatedLists.{tabulate_is}
 use Rattle.records.specs.Encoding.{rows_of, cell_row, cell_bytes}
 use Rattle.buffers.proofs.StoredBytes.{put_next}
-use Rattle.records.proofs.ByteRows.{RowsPut, rows_length, put_none, put_more, put_all}
+use Rattle.records.proofs.ByteRows.{rows_length, put_none, put_more, put_all}
 use borrow.Author.Rules.{rules}
 use Rattle.records.proofs.put.put_cell.Goals as goal
 

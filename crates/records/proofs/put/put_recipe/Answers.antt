@@ -1,9 +1,8 @@
-use Prim.Native.Nat.{◌-◌, ◌≤◌}
 use mathlib.Core.Path.{refl, ◌∙◌}
 use native.Mathlib.Omega.{arith}
-use lib.ListN.{length, set, length-set}
+use lib.ListN.{set, length-set}
 use Rattle.records.specs.Encoding.{recipe_row, recipe_bytes}
-use Rattle.records.proofs.ByteRows.{RowsPut, put_none, put_more, put_all}
+use Rattle.records.proofs.ByteRows.{put_none, put_more, put_all}
 use Rattle.records.proofs.put.put_recipe.Goals as goal
 
 pub overflow_cast-buffer : goal.overflow_cast-buffer

@@ -1,13 +1,11 @@
 use Prim.Native.Nat.{◌-◌, ◌≤◌}
-use mathlib.Core.Path.{refl, ◌∙◌}
-use native.Mathlib.Omega.{arith}
-use lib.ListN.{length, set, length-set}
-use Rattle.records.specs.Encoding.{recipe_row, recipe_bytes}
-use Rattle.records.proofs.ByteRows.{RowsPut, put_none, put_more, put_all}
+use lib.ListN.{length}
+use Rattle.records.specs.Encoding.{recipe_row}
+use Rattle.records.proofs.ByteRows.{RowsPut}
 use Rattle.records.proofs.put.put_recipe.Given as goal
 
 abbrev pub invariant-loop-i : goal.invariant-loop-i
-invariant-loop-i l =     (l.i ≤ 64)
+invariant-loop-i l = (l.i ≤ 64)
     × (449 ≤ length l.initial.buffer)
     × RowsPut
     (recipe_row (record { count = l.count; point = l.point; kind = l.kind; op = l.op; takes = l.takes; gives = l.gives; then = l.then; otherwise = l.otherwise }))

@@ -1,9 +1,6 @@
 use mathlib.Core.Path.{◌≡◌, sym, ◌∙◌}
-use mathlib.Core.Bool.{true}
-use Prim.Native.Nat.{◌≤◌, ◌-◌}
 use native.Mathlib.Omega.{arith}
-use Rattle.refusals.specs.Search.{all_below}
-use Rattle.steps.proofs.LoopTurns.{spare, spare_first, spare_more, spare_not, spare_all}
+use Rattle.steps.proofs.LoopTurns.{spare_first, spare_more, spare_not, spare_all}
 use Rattle.steps.proofs.entry.is_unused.Goals as goal
 
 pub loop-j-init : goal.loop-j-init

@@ -1,9 +1,8 @@
-use mathlib.Core.Path.{◌≡◌, sym, ◌∙◌}
+use mathlib.Core.Path.{◌≡◌}
 use mathlib.Core.Bool.{true}
 use Prim.Native.Nat.{◌≤◌, ◌-◌}
-use native.Mathlib.Omega.{arith}
 use Rattle.refusals.specs.Search.{all_below}
-use Rattle.steps.proofs.LoopTurns.{spare, spare_first, spare_more, spare_not, spare_all}
+use Rattle.steps.proofs.LoopTurns.{spare}
 use Rattle.steps.proofs.entry.is_unused.Given as goal
 
 abbrev pub invariant-loop-j : goal.invariant-loop-j

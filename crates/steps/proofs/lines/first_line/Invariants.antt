@@ -1,9 +1,6 @@
-use mathlib.Core.Path.{◌≡◌, refl, sym}
+use mathlib.Core.Path.{◌≡◌}
 use Prim.Native.Nat.{◌≤◌, ◌-◌}
-use native.Mathlib.Omega.{arith}
 use Rattle.refusals.specs.Search.{first_below, is_of}
-use Rattle.refusals.proofs.Scan.{first_more, first_hit, first_end}
-use Rattle.steps.proofs.PointLines.{is_at, not_at}
 use Rattle.steps.proofs.lines.first_line.Given as goal
 
 abbrev pub invariant-loop-n : goal.invariant-loop-n

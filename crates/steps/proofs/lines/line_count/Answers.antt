@@ -1,5 +1,4 @@
 use mathlib.Core.Path.{◌≡◌, sym}
-use Prim.Native.Nat.{◌≤◌, ◌-◌}
 use native.Mathlib.Omega.{arith}
 use Rattle.refusals.specs.Search.{count_below, is_of}
 use Rattle.refusals.proofs.Scan.{first_le}

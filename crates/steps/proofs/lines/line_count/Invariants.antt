@@ -1,9 +1,6 @@
-use mathlib.Core.Path.{◌≡◌, sym}
+use mathlib.Core.Path.{◌≡◌}
 use Prim.Native.Nat.{◌≤◌, ◌-◌}
-use native.Mathlib.Omega.{arith}
 use Rattle.refusals.specs.Search.{count_below, is_of}
-use Rattle.refusals.proofs.Scan.{first_le}
-use Rattle.steps.proofs.PointLines.{none_before, one_more, counted_to}
 use Rattle.steps.proofs.lines.line_count.Given as goal
 
 abbrev pub invariant-loop-n : goal.invariant-loop-n

@@ -1,7 +1,5 @@
-use Prim.Native.Nat.{◌-◌}
 use native.Mathlib.Omega.{arith}
-use lib.ListN.{length}
-use Rattle.tables.proofs.LeadingDigits.{Read, read_none, read_more, read_room, read_stop, read_long, leading_none, leading_end}
+use Rattle.tables.proofs.LeadingDigits.{read_none, read_more, read_room, read_stop, read_long, leading_none, leading_end}
 use Rattle.tables.proofs.LeadingDigits.{digit_low, digit_high, digit_is}
 use Rattle.tables.proofs.digits.read_number.Goals as goal
 

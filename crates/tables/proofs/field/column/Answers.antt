@@ -1,13 +1,13 @@
 use mathlib.Core.Path.{◌≡◌, refl, sym, ap, ◌∙◌}
 use mathlib.Core.List.{◌++◌}
-use Prim.Native.Nat.{ℕ, ◌-◌, ◌<◌, ◌≤◌}
+use Prim.Native.Nat.{ℕ, ◌<◌, ◌≤◌}
 use native.Mathlib.Omega.{arith}
 use lib.ListN.{drop, replicate}
 use Rattle.refusals.specs.Search.{first_below, tabulate}
 use Rattle.refusals.proofs.Scan.{first_more, first_hit, first_end}
 use Rattle.refusals.proofs.TabulatedLists.{fill}
 use Rattle.tables.specs.Reading.{kept_number}
-use Rattle.tables.proofs.Columns.{outside, outside_low, outside_high, inside}
+use Rattle.tables.proofs.Columns.{outside_low, outside_high, inside}
 use Rattle.tables.proofs.field.column.Goals as goal
 
 pub loop-i-init : goal.loop-i-init

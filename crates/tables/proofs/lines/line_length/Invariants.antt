@@ -1,9 +1,7 @@
 use Prim.Native.Nat.{◌+◌, ◌-◌, ◌≤◌}
 use mathlib.Core.Path.{◌≡◌}
-use native.Mathlib.Omega.{arith}
 use lib.ListN.{length, drop}
 use Rattle.tables.specs.Reading.{up_to}
-use Rattle.tables.proofs.TextPieces.{up_to_stop, up_to_more, up_to_end}
 use Rattle.tables.proofs.lines.line_length.Given as goal
 
 abbrev pub invariant-loop-i : goal.invariant-loop-i

@@ -3,7 +3,6 @@ use native.Mathlib.Omega.{arith}
 use lib.ListN.{length, drop}
 use Rattle.tables.specs.Reading.{up_to}
 use Rattle.tables.proofs.TextPieces.{rest, next_some, next_none, line_within}
-use borrow.Author.Rules.{rules}
 use Rattle.tables.proofs.lines.next_line.Goals as goal
 
 pub overflow_add-end : goal.overflow_add-end

@@ -1,10 +1,9 @@
-use Prim.Native.Nat.{◌-◌}
 use mathlib.Core.Path.{◌≡◌, refl, ap, ◌∙◌}
 use native.Mathlib.Omega.{arith}
 use lib.ListN.{length, drop}
-use Rattle.tables.specs.Reading.{line_of, Kept}
+use Rattle.tables.specs.Reading.{line_of}
 use Rattle.tables.proofs.TextPieces.{rest}
-use Rattle.tables.proofs.ValueLines.{Judges, judges_none, judges_more, judges_broken, judges_end, row_within}
+use Rattle.tables.proofs.ValueLines.{judges_none, judges_more, judges_broken, judges_end, row_within}
 use Rattle.tables.proofs.KeptNumbers.{line_number, kept_none, kept_length, kept_more, checked_broken, checked_whole}
 use Rattle.tables.proofs.rules.check_lines.Goals as goal
 
@@ -16,7 +15,6 @@ loop-at-init c = (
   refl,
   judges_none c.args.k c.args.file.now c.next_line-at.result c.next_line-at.ensures,
   kept_none c.args.k c.args.file.now c.args.store.now,
-
 )
 
 pub slice_bounds-read_line-count : goal.slice_bounds-read_line-count
@@ -29,7 +27,7 @@ pub shape_of-store-then-length-eq0 : goal.shape_of-store-then-length-eq0
 shape_of-store-then-length-eq0 c = c.loop-at.invariant.0
 
 pub returns-then-length-eq0 : goal.returns-then-length-eq0
-returns-then-length-eq0 c = 
+returns-then-length-eq0 c =
     let f = c.args.file.now in
     let l = c.loop-at in
     let e : c.read_line-line.result ≡ line_of c.args.k (drop l.at f) =
@@ -39,7 +37,7 @@ returns-then-length-eq0 c =
     c.loop-at-test.true c.if-length-eq0.true)
 
 pub keep_line-requires : goal.keep_line-requires
-keep_line-requires c = 
+keep_line-requires c =
     omega (
       arith,
       c.loop-at.invariant.0,
@@ -47,7 +45,7 @@ keep_line-requires c =
     )
 
 pub overflow_add-at : goal.overflow_add-at
-overflow_add-at c = 
+overflow_add-at c =
     let f = c.args.file.now in
     let l = c.loop-at in
     let e : c.read_line-line.result ≡ line_of c.args.k (drop l.at f) =
@@ -64,7 +62,7 @@ pub loop-at-smaller : goal.loop-at-smaller
 loop-at-smaller c = let w = c.loop-at.invariant.1 in omega arith
 
 pub loop-at-preserved : goal.loop-at-preserved
-loop-at-preserved c = 
+loop-at-preserved c =
     let f = c.args.file.now in
     let l = c.loop-at in
     let L = c.read_line-line.result in
@@ -86,7 +84,7 @@ pub shape_of-store : goal.shape_of-store
 shape_of-store c = c.loop-at.invariant.0
 
 pub returns : goal.returns
-returns c = 
+returns c =
     let l = c.loop-at in
     checked_whole c.args.k c.args.file.now l.n l.store
     (judges_end c.args.k c.args.file.now l.n l.at l.invariant.1 c.loop-at-test.false) l.invariant.2

@@ -1,8 +1,5 @@
-use Prim.Native.Nat.{◌-◌, ◌≤◌}
-use mathlib.Core.Path.{◌≡◌, refl, sym, ◌∙◌}
+use mathlib.Core.Path.{refl, sym, ◌∙◌}
 use native.Mathlib.Omega.{arith}
-use lib.ListN.{length, drop}
-use Rattle.tables.specs.Table.{starts}
 use Rattle.tables.proofs.NamesLine.{starts_more, starts_differs, starts_short, starts_whole}
 use Rattle.tables.proofs.rules.has_names.Goals as goal
 
@@ -30,14 +27,13 @@ pub loop-i-smaller : goal.loop-i-smaller
 loop-i-smaller c = omega arith
 
 pub loop-i-preserved : goal.loop-i-preserved
-loop-i-preserved c =
-    (
-      omega arith,
-      omega arith,
-      c.loop-i.invariant.2
-          ∙ starts_more c.args.names.now c.args.file.now c.loop-i.i (omega arith) (omega arith)
-          c.if-file-i.false,
-    )
+loop-i-preserved c = (
+  omega arith,
+  omega arith,
+  c.loop-i.invariant.2
+      ∙ starts_more c.args.names.now c.args.file.now c.loop-i.i (omega arith) (omega arith)
+      c.if-file-i.false,
+)
 
 pub returns : goal.returns
 returns c =

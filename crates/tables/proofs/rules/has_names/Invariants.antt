@@ -1,9 +1,7 @@
 use Prim.Native.Nat.{◌-◌, ◌≤◌}
-use mathlib.Core.Path.{◌≡◌, refl, sym, ◌∙◌}
-use native.Mathlib.Omega.{arith}
+use mathlib.Core.Path.{◌≡◌}
 use lib.ListN.{length, drop}
 use Rattle.tables.specs.Table.{starts}
-use Rattle.tables.proofs.NamesLine.{starts_more, starts_differs, starts_short, starts_whole}
 use Rattle.tables.proofs.rules.has_names.Given as goal
 
 abbrev pub invariant-loop-i : goal.invariant-loop-i

@@ -3,7 +3,6 @@ use native.Mathlib.Numerals.{towards_suc}
 use lib.ListN.{length-set}
 use borrow.Author.Tests.{lt-ltb, le-ltb}
 use Rattle.tables.specs.Reading.{kept_line}
-use borrow.Author.Rules.{rules}
 use Rattle.tables.proofs.rules.keep_line.Goals as goal
 
 pub returns-then-n-ge64 : goal.returns-then-n-ge64
