@@ -18,6 +18,7 @@ ghost use Rattle.run.specs.Calls.{fresh_run, next_move, report_of, part_place};
 ghost use Rattle.records.specs.Encoding.{cell_bytes, recipe_bytes, cell_from, recipe_from};
 ghost use Rattle.capi.specs.Encoding.{code_of, run_bytes, run_from};
 ghost use Rattle.capi.specs.Answer.{BufferAnswered, LimitsAnswered, move_code, place_code, Reported, Recorded, PlanAnswered, InstallAnswered};
+ghost use Rattle.planner.specs.Call.{FixedCall};
 
 use refusals::{Refusal, Verdict};
 use run::Run;
@@ -135,7 +136,8 @@ pub extern "C" fn cellplan_plan(
     table: &mut [u32],
     scratch: &mut [u8],
 ) -> u32
-    ensures { PlanAnswered (cell_from cell.now) (chapters_from recipes.now) table.old scratch.old table.new scratch.new result }
+    ensures answered { PlanAnswered (cell_from cell.now) (chapters_from recipes.now) table.old scratch.old table.new scratch.new result }
+    ensures fixed { FixedCall (cell_from cell.now) (chapters_from recipes.now) table.old scratch.old table.new }
 {
     let verdict = planner::plan(records::get_cell(cell), recipes, table, scratch);
     refusal_number(verdict) as u32

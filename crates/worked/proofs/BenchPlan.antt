@@ -1,16 +1,16 @@
 -- The bench example's plan: its table is one, the stages show what is lost, and both are computed. Assumes nothing.
-use mathlib.Core.Path.{◌≡◌, refl, ap, subst, ◌∙◌}
+use mathlib.Core.Path.{◌≡◌, refl, ap, subst, ◌∙◌, sym}
 use mathlib.Core.Bool.{Bool, true, false, not}
 use mathlib.Core.List.{List, [], ◌∷◌}
 use Prim.Native.Nat.{ℕ, ◌<◌}
 use native.Mathlib.Omega.{arith}
 use lib.ListN.{length, get_or}
 use lib.Dec.{eqb}
-use borrow.Author.Tests.{ne_eqb, eqb-true}
+use borrow.Author.Tests.{ne_eqb, eqb-true, eq-eqb}
 use Rattle.refusals.specs.declared.Verdict.TheVariants.{Accepted}
 use Rattle.refusals.specs.Search.{first_below, any_below, all_below, count_below, greatest_below, tabulate, is_of}
 use Rattle.refusals.specs.Verdict.{first_refusal, first_line, no_line, rule3, line_verdict}
-use Rattle.chapters.specs.Joined.{chapter_at, Point, first_point, kind_at, is_earlier, landing, then_at, else_at}
+use Rattle.chapters.specs.Joined.{chapter_at, Point, first_point, kind_at, is_earlier, landing, then_at, else_at, Chapters, point_in}
 use Rattle.chapters.specs.Sizes as sizes
 use Rattle.chapters.specs.Sizes.{Measures, points_at, sizes_in, begins, position_in, entry_in}
 use Rattle.chapters.specs.Checked.{AllChecked}
@@ -33,26 +33,37 @@ use Rattle.steps.specs.Entry.{entry_kind, letter, unused, lines_used, carry_lett
 use Rattle.steps.specs.Effect.{taken, effect, is_move, opens, leaves, makes, leads_to}
 use Rattle.steps.proofs.StationLoads.{all_kept}
 use Rattle.steps.proofs.EntryForms.{carry_entry}
-use Rattle.simulation.specs.Simulation.{Set, Realisable}
-use Rattle.simulation.specs.Plan.{Planned}
+use Rattle.simulation.specs.Simulation.{Set, Realisable, PositionIn, Greatest}
+use Rattle.simulation.specs.Plan.{Planned, Fixed}
 use Rattle.simulation.proofs.JoinedMachine.{joined_starts}
 use Rattle.simulation.proofs.ClosedTableTest.{rank_of, has_entry, leads_on, closed_at, is_closed}
 use Rattle.simulation.proofs.StageTest.{stage_of, no_more, lower, keeps_stage, stays_staged, moves_staged, position_staged, are_stages}
-use Rattle.simulation.proofs.PlannedEntries.{same_number}
+use Rattle.simulation.proofs.PlannedEntries.{same_number, promised_open}
 use Rattle.simulation.proofs.JointIsSingle.{SingleGoesOn, SingleSimulation, within, is_within, single_joint}
 use Rattle.worked.specs.Moves.{filled, bench_cell, bench_recipe, bench_sizes, bench_measures, bench_entry, bench_table, bench_ranks}
 use Rattle.worked.specs.Plans.{bench_stages, dead_recipe, dead_stages, end_recipe}
-use Rattle.worked.proofs.SingleRecipes.{single_entries, single_entry, single_only}
+use Rattle.worked.proofs.SingleRecipes.{single_entries, single_entry, single_only, single_numbered, single_position}
 use Rattle.worked.proofs.SingleRecipes.{all_checked}
 use Rattle.worked.proofs.Certificates.{staged_unrealisable}
 use Rattle.worked.proofs.EveryPosition.{in_chapter, everywhere}
 use Rattle.worked.proofs.FormedEntries.{pairs_pass, formed_pass}
 use Rattle.worked.proofs.ChapterStages.{lowers, keeps_in, staged_in, are_stages_in}
 use Rattle.worked.proofs.ChapterCertificates.{passes_at, closed_in, are_closed}
-use Rattle.worked.proofs.ShownTables.{no_better, soonest_at, lost_at, joint_at, is_shown, shown_planned}
+use Rattle.worked.proofs.ShownTables.{no_better, soonest_at, lost_at, joint_at, is_shown, shown_planned, shown_fixed}
+use native.Mathlib.Decide.{ℕ_discrete}
+use Rattle.cell.specs.declared.Cell.{Cell}
+use Rattle.run.specs.Book.{asks, opened, at_end, is_open}
 
 abbrev dead_sizes : Sizes
 dead_sizes = sizes_of bench_cell dead_recipe
+
+-- position m has no entry
+record NoEntry (m : ℕ) : Type 0 where
+  number : position_of bench_sizes (point_at bench_sizes m) (configuration_at bench_sizes m) ≡ m
+  range : is_position bench_sizes (point_at bench_sizes m) (configuration_at bench_sizes m) ≡ true
+  six : length (configuration_at bench_sizes m).state ≡ 6
+  eight : length (configuration_at bench_sizes m).place ≡ 8
+  none : get_or bench_table m 0 ≡ 0
 
 -- what is computed
 pub record Computed : Type 0 where
@@ -65,6 +76,16 @@ pub record Computed : Type 0 where
   pub dead_sized : check_sizes bench_cell dead_recipe ≡ Accepted
   dead_staged : are_stages bench_cell dead_recipe dead_sizes dead_stages ≡ true
   dead_start : stage_of dead_sizes dead_stages 0 start ≡ 3
+  six : length start.state ≡ 6
+  eight : length start.place ≡ 8
+  -- positions 1 and 23, which have no entry
+  first : NoEntry 1
+  empty_lane : NoEntry 23
+  -- position 72, point 4 with the starting configuration, which is an end
+  last_number : position_of bench_sizes 4 start ≡ 72
+  last_range : is_position bench_sizes 4 start ≡ true
+  last_some : get_or bench_table 72 0 ≡ 67108864
+  last_end : kind_of bench_recipe 4 ≡ 0
   -- one fewer than before lanes had to be loaded: position 23 has none
   pub many : count_below (λ m. not (eqb (get_or bench_table m 0) 0)) 90 ≡ 24
   pub end_sized : check_sizes bench_cell end_recipe ≡ Accepted
@@ -99,6 +120,14 @@ computed =
       dead_sized = refl;
       dead_staged = refl;
       dead_start = refl;
+      six = refl;
+      eight = refl;
+      first = record { number = refl; range = refl; six = refl; eight = refl; none = refl };
+      empty_lane = record { number = refl; range = refl; six = refl; eight = refl; none = refl };
+      last_number = refl;
+      last_range = refl;
+      last_some = refl;
+      last_end = refl;
       many = refl;
       end_sized = refl;
       end_ends = refl;
@@ -108,8 +137,7 @@ computed =
 bench_checked : AllChecked bench_cell (bench_recipe ∷ []) bench_measures
 bench_checked = all_checked bench_cell bench_recipe computed.sized
 
--- the table is a plan: its 24 entries stand at the positions of the greatest simulation, they keep every promise, and each begins a
--- shortest way
+-- the table is a plan: its 24 entries stand at the positions of the greatest simulation, and they keep every promise
 pub bench_planned : Planned bench_cell (bench_recipe ∷ []) bench_measures bench_table bench_table false
 bench_planned =
     subst (λ (refused : Bool). Planned bench_cell (bench_recipe ∷ []) bench_measures bench_table bench_table refused)
@@ -119,17 +147,75 @@ bench_planned =
     (shown_planned bench_cell (bench_recipe ∷ []) bench_checked bench_table bench_ranks bench_stages computed.shown
     (omega (arith, single_entries bench_cell bench_recipe, computed.positions, computed.entries)))
 
--- and has the entries of any table that is one
-pub bench_entries : (before table : List ℕ) (refused : Bool) → Planned bench_cell (bench_recipe ∷ []) bench_measures before table refused
-    → (n : ℕ) → n < 90 → get_or table n 0 ≡ get_or bench_table n 0
-bench_entries before table refused plan n low =
-    same_number bench_cell (bench_recipe ∷ []) bench_measures bench_checked before table bench_table bench_table refused false plan bench_planned n
-    (omega (arith, single_entries bench_cell bench_recipe, computed.positions))
+-- each entry begins a shortest way
+pub bench_fixed : Fixed bench_cell (bench_recipe ∷ []) bench_measures bench_table
+bench_fixed =
+    shown_fixed bench_cell (bench_recipe ∷ []) bench_checked bench_table bench_ranks bench_stages computed.shown
+    (omega (arith, single_entries bench_cell bench_recipe, computed.positions, computed.entries))
+
+-- so it has the entries of any table of which both holds
+pub bench_entries :
+    (before table : List ℕ) (refused : Bool)
+    → Planned bench_cell (bench_recipe ∷ []) bench_measures before table refused
+    → Fixed bench_cell (bench_recipe ∷ []) bench_measures table
+    → (n : ℕ)
+    → n < 90
+    → get_or table n 0 ≡ get_or bench_table n 0
+bench_entries before table refused plan fixed n low =
+    same_number bench_cell (bench_recipe ∷ []) bench_measures bench_checked before table bench_table bench_table refused false plan bench_planned
+    fixed bench_fixed n (omega (arith, single_entries bench_cell bench_recipe, computed.positions))
 
 -- ‡ "point 3 as `3,2,2,1,0,2,2` gives 15, the station having left state 1": no simulation holds the start
 pub dead_recipe_lem : Realisable bench_cell (dead_recipe ∷ []) → ⊥
 dead_recipe_lem =
     staged_unrealisable bench_cell dead_recipe computed.dead_sized dead_stages computed.dead_staged (omega (arith, computed.dead_start))
+
+end_entry_lem : (c : Cell) (rs : Chapters) (p : Point) (a : Configuration) (e : ℕ) → kind_at rs p ≡ 0 → is_open c rs (opened p a) e ≡ true → e ≡ 67108864
+unfolding is_open at_end opened
+end_entry_lem c rs p a e done way = eqb-true e 67108864 (rw (eq-eqb (kind_at rs p) 0 done) at way)
+
+-- of any table that is a plan
+module _ (before table : List ℕ) (refused : Bool) (plan : Planned bench_cell (bench_recipe ∷ []) bench_measures before table refused) where
+  entry_none : (m : ℕ) → NoEntry m → get_or table m 0 ≡ 0
+  entry_none m lacks = decide (ℕ_discrete (get_or table m 0) 0)
+    where
+      here : PositionIn (bench_recipe ∷ []) bench_measures (point_in 0 (point_at bench_sizes m)) (configuration_at bench_sizes m)
+      here = single_position bench_cell bench_recipe _ _ (record { is_in_range = lacks.range; six = lacks.six; eight = lacks.eight })
+
+      numbered : (t : List ℕ) → entry_in bench_measures t (point_in 0 (point_at bench_sizes m)) (configuration_at bench_sizes m) ≡ get_or t m 0
+      numbered t = single_numbered bench_cell bench_recipe t (point_at bench_sizes m) (configuration_at bench_sizes m) m lacks.number
+
+      decide : Dec (get_or table m 0 ≡ 0) → get_or table m 0 ≡ 0
+      decide (yes e) = e
+      decide (no some) =
+          absurd
+          (bench_planned.zero_lacks _ _ here (numbered bench_table ∙ lacks.none)
+          (plan.entry_holds _ _ here (λ e. some (sym (numbered table) ∙ e))))
+
+  -- ‡ "entry 1 is 0"
+  pub entry_one : get_or table 1 0 ≡ 0
+  entry_one = entry_none 1 computed.first
+
+  -- request 8: at position 23 the lane would start empty
+  pub entry_empty_lane : get_or table 23 0 ≡ 0
+  entry_empty_lane = entry_none 23 computed.empty_lane
+
+  -- ‡ "entry 72 is 67108864"
+  pub entry_last : get_or table 72 0 ≡ 67108864
+  unfolding chapter_at
+  entry_last =
+      let at : Point = point_in 0 4 in
+      let last : PositionIn (bench_recipe ∷ []) bench_measures at start =
+      single_position bench_cell bench_recipe 4 start (record { is_in_range = computed.last_range; six = computed.six; eight = computed.eight }) in
+      let held : Greatest bench_cell (bench_recipe ∷ []) bench_measures at start =
+      bench_planned.entry_holds at start last (λ e. omega (arith, sym (numbered bench_table) ∙ e, computed.last_some)) in
+      let some : entry_in bench_measures table at start ≡ 0 → ⊥ = λ e. plan.zero_lacks at start last e held in
+      sym (numbered table)
+      ∙ end_entry_lem bench_cell (bench_recipe ∷ []) at start _ computed.last_end
+      (promised_open bench_cell (bench_recipe ∷ []) bench_measures table at start (plan.promises at start last some (asks ∷ [])))
+    where
+      numbered : (t : List ℕ) → entry_in bench_measures t (point_in 0 4) start ≡ get_or t 72 0
+      numbered t = single_numbered bench_cell bench_recipe t 4 start 72 computed.last_number
 
 -- ‡ "a recipe of one end is accepted": it passes the rules before 15, and is realisable
 pub one_end : Realisable bench_cell (end_recipe ∷ [])

@@ -22,7 +22,7 @@ use Rattle.chapters.specs.Rules.{check_sizes}
 use Rattle.run.specs.declared.Run.{Run}
 use Rattle.run.specs.Calls.{run_at, place_rules, move_rules, report_rules, next_move, report_of, part_place}
 use Rattle.simulation.specs.Simulation.{Position, Greatest}
-use Rattle.planner.specs.Call.{check_plan, PlanCall}
+use Rattle.planner.specs.Call.{check_plan, PlanCall, FixedCall}
 use Rattle.worked.specs.OneRecipe as single
 use Rattle.worked.proofs.OneChapterCalls as calls
 use Rattle.worked.proofs.OneChapterPlans as plans
@@ -70,9 +70,6 @@ pub record SameTable (c : Cell) (r : Recipe) (table table' : List ℕ) (verdict 
   -- "a table entry is other than 0 exactly at the positions which that simulation holds"
   pub entry_holds : (p : ℕ) (a : Configuration) → Position (sizes_of c r) p a → (entry_of (sizes_of c r) table' p a ≡ 0 → ⊥) → single.Greatest c r (sizes_of c r) p a
   pub zero_lacks : (p : ℕ) (a : Configuration) → Position (sizes_of c r) p a → entry_of (sizes_of c r) table' p a ≡ 0 → single.Greatest c r (sizes_of c r) p a → ⊥
-  -- "Each entry other than 0 at a do or test is now fixed."
-  pub entry_fixed : (p : ℕ) (a : Configuration) → Position (sizes_of c r) p a → (kind_of r p ≡ 0 → ⊥) → (entry_of (sizes_of c r) table' p a ≡ 0 → ⊥)
-      → single.Shortest c r (sizes_of c r) p a (entry_of (sizes_of c r) table' p a)
   -- "Entries past M keep their content."
   pub past_stay : (n : ℕ) → (sizes_of c r).positions ≤ n → get_or table' n 0 ≡ get_or table n 0
   -- "accepted exactly when the greatest simulation .. holds the start", and 15 exactly if it does not
@@ -123,9 +120,6 @@ one_chapter c r =
           record {
             entry_holds = plans.entry_holds c r table scratch table' scratch' verdict call passes;
             zero_lacks = plans.zero_lacks c r table scratch table' scratch' verdict call passes;
-            entry_fixed =
-                λ p a here going some.
-                single_shortest c r p a _ (plans.entry_fixed c r table scratch table' scratch' verdict call passes p a here going some);
             past_stay = plans.past_stay c r table scratch table' scratch' verdict call passes;
             accepted_holds = plans.accepted_holds c r table scratch table' scratch' verdict call passes;
             holds_accepted = plans.holds_accepted c r table scratch table' scratch' verdict call passes;
@@ -134,3 +128,17 @@ one_chapter c r =
           };
       refused_before = plans.refused_before c r;
     }
+
+-- "Each entry other than 0 at a do or test is now fixed.", of the recipe as of its chapter
+pub one_chapter_fixed :
+    (c : Cell) (r : Recipe) (table scratch table' scratch' : List ℕ) (verdict : Verdict)
+    → PlanCall c (r ∷ []) table scratch table' scratch' verdict
+    → FixedCall c (r ∷ []) table scratch table'
+    → single.check_plan c r (length table) (length scratch) ≡ Accepted
+    → (p : ℕ) (a : Configuration)
+    → Position (sizes_of c r) p a
+    → (kind_of r p ≡ 0 → ⊥)
+    → (entry_of (sizes_of c r) table' p a ≡ 0 → ⊥)
+    → single.Shortest c r (sizes_of c r) p a (entry_of (sizes_of c r) table' p a)
+one_chapter_fixed c r table scratch table' scratch' verdict call fixed passes p a here going some =
+    single_shortest c r p a _ (plans.entry_fixed c r table scratch table' scratch' verdict call passes fixed p a here going some)

@@ -22,7 +22,7 @@ use Rattle.chapters.proofs.OneChapter.{begins_second, one_sizes}
 use Rattle.simulation.specs.Simulation.{Position, PositionIn, Greatest}
 use Rattle.simulation.specs.Shortest.{Shortest}
 use Rattle.simulation.specs.Plan.{Planned}
-use Rattle.planner.specs.Call.{check_plan, PlanCall}
+use Rattle.planner.specs.Call.{check_plan, PlanCall, FixedCall}
 use Rattle.planner.proofs.PlanAnswers.{refused_kept}
 use Rattle.planner.proofs.Demands.{accepted_realisable, realisable_accepted, unrealisable_refused}
 use Rattle.worked.specs.OneRecipe as single
@@ -81,15 +81,16 @@ module _ (c : Cell) (r : Recipe) where
 
         -- "Each entry other than 0 at a do or test is now fixed.", over the one chapter
         pub entry_fixed :
-            (p : ℕ) (a : Configuration)
+            FixedCall c (r ∷ []) table scratch table'
+            → (p : ℕ) (a : Configuration)
             → Position (sizes_of c r) p a
             → (kind_of r p ≡ 0 → ⊥)
             → (entry_of (sizes_of c r) table' p a ≡ 0 → ⊥)
             → Shortest c (r ∷ []) (sizes_in c (r ∷ [])) (point_in 0 p) a (entry_of (sizes_of c r) table' p a)
         unfolding chapter_at
-        entry_fixed p a here going some =
+        entry_fixed fixed p a here going some =
             subst (λ (e : ℕ). Shortest c (r ∷ []) (sizes_in c (r ∷ [])) (point_in 0 p) a e) (same_entry c r p a table')
-            (plan.shortest (point_in 0 p) a (at_first p a here) going (λ none. some (sym (same_entry c r p a table') ∙ none)))
+            ((fixed.fixed checked).shortest (point_in 0 p) a (at_first p a here) going (λ none. some (sym (same_entry c r p a table') ∙ none)))
 
         -- "Entries past M keep their content."
         pub past_stay : (n : ℕ) → (sizes_of c r).positions ≤ n → get_or table' n 0 ≡ get_or table n 0

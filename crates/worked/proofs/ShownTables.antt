@@ -24,13 +24,13 @@ use Rattle.chapters.specs.Sizes.{Measures, sizes_in, begins, entry_in}
 use Rattle.chapters.specs.Checked.{AllChecked}
 use Rattle.chapters.proofs.Landing.{is_earlier_lem}
 use Rattle.simulation.specs.Simulation.{PositionIn}
-use Rattle.simulation.specs.Plan.{Planned}
+use Rattle.simulation.specs.Plan.{Planned, Fixed}
 use Rattle.simulation.proofs.Machine.{Lost, beyond}
 use Rattle.simulation.proofs.JoinedMachine.{joined_machine, landing_position}
-use Rattle.simulation.proofs.ShortestTable.{SoonestTable}
+use Rattle.simulation.proofs.ShortestTable.{SoonestTable, shortest_entry}
 use Rattle.simulation.proofs.ClosedTableIsPlan.{planned}
 use Rattle.simulation.proofs.PlannedEntries.{same_number}
-use Rattle.planner.specs.Call.{check_plan, PlanCall}
+use Rattle.planner.specs.Call.{check_plan, PlanCall, FixedCall}
 use Rattle.planner.proofs.Demands.{realisable_accepted}
 use Rattle.worked.proofs.FineChapters.{Fine, fine_checked, fine_passes}
 use Rattle.worked.proofs.EveryPosition.{everywhere, at_position}
@@ -202,14 +202,25 @@ module _
         let zs = sizes_in c rs in
         planned c rs K table table (rank_in zs ranks) lacks long
         (tables_closed c rs zs K table ranks (passed c rs zs K table ranks stages shown).closed)
-        (zeros c rs zs K table ranks stages shown) (soonest c rs zs K table ranks stages shown) (joints c rs zs K table ranks stages shown)
+        (zeros c rs zs K table ranks stages shown) (joints c rs zs K table ranks stages shown)
         (λ some. eqb-false _ 0 some) (λ none. eqb-true _ 0 none) refl (λ n past. refl)
+
+    -- and its entries are the fixed ones
+    pub shown_fixed : Fixed c rs (sizes_in c rs) table
+    shown_fixed =
+        let zs = sizes_in c rs in
+        record {
+          shortest =
+              shortest_entry c rs zs K table (rank_in zs ranks) (tables_closed c rs zs K table ranks (passed c rs zs K table ranks stages shown).closed)
+              (zeros c rs zs K table ranks stages shown) (soonest c rs zs K table ranks stages shown);
+        }
 
 -- every plan call on the cell and the chapters that is lent so much accepts, and leaves the entries of the table shown
 abbrev pub Leaves : Cell → Chapters → ℕ → ℕ → List ℕ → Type 0
 Leaves c rs entries bytes shown =
     (table scratch table' scratch' : List ℕ) (verdict : Verdict)
     → PlanCall c rs table scratch table' scratch' verdict
+    → FixedCall c rs table scratch table'
     → entries ≤ length table
     → bytes ≤ length scratch
     → (verdict ≡ Accepted) × ((n : ℕ) → n < entries → get_or table' n 0 ≡ get_or shown n 0)
@@ -223,7 +234,7 @@ pub leaves_shown :
     → length shown ≡ entries
     → eqb (entry_in (sizes_in c rs) shown first_point start) 0 ≡ false
     → Leaves c rs entries bytes shown
-leaves_shown c rs entries bytes fine shown ranks stages good enough begun table scratch table' scratch' verdict call long wide =
+leaves_shown c rs entries bytes fine shown ranks stages good enough begun table scratch table' scratch' verdict call fixed long wide =
     (realisable_accepted c rs table scratch table' scratch' verdict call passes (plan.accepted_holds begun), λ n low. same n (omega (arith, fine.all)))
   where
     K : AllChecked c rs (sizes_in c rs)
@@ -236,4 +247,5 @@ leaves_shown c rs entries bytes fine shown ranks stages good enough begun table 
     plan = shown_planned c rs K shown ranks stages good (omega (arith, fine.all))
 
     same : (n : ℕ) → n < begins (sizes_in c rs) (length rs) → get_or table' n 0 ≡ get_or shown n 0
-    same = same_number c rs (sizes_in c rs) K table table' shown shown call.refused _ (call.planned passes) plan
+    same = same_number c rs (sizes_in c rs) K table table' shown shown call.refused _ (call.planned passes) plan (fixed.fixed passes)
+        (shown_fixed c rs K shown ranks stages good (omega (arith, fine.all)))

@@ -32,7 +32,7 @@ use Rattle.chapters.specs.Sizes.{Measures, points_at, sizes_in, begins, position
 use Rattle.chapters.specs.Rules.{rule24, rule24_joint, chapter_rules, in_turn, chapters_rules, record_rules, rule13}
 use Rattle.run.specs.Book.{Call}
 use Rattle.run.specs.Promises.{Promises}
-use Rattle.simulation.specs.Plan.{Planned}
+use Rattle.simulation.specs.Plan.{Planned, Fixed}
 use Rattle.simulation.proofs.ClosedTableTest as closed
 use Rattle.simulation.proofs.ClosedTableTest.{rank_of, has_entry, closed_at, is_closed}
 use Rattle.simulation.proofs.PlannedEntries.{same_number}
@@ -46,7 +46,7 @@ use Rattle.worked.proofs.FineChapters.{Fine, fine_checked}
 use Rattle.worked.proofs.Certificates.{closed_keeps}
 use Rattle.worked.proofs.ChapterStages.{lowers, keeps_in, staged_in, are_stages_in}
 use Rattle.worked.proofs.ChapterCertificates.{passes_at, closed_in, are_closed}
-use Rattle.worked.proofs.ShownTables.{no_better, soonest_at, lost_at, joint_at, is_shown, shown_planned, Leaves, leaves_shown}
+use Rattle.worked.proofs.ShownTables.{no_better, soonest_at, lost_at, joint_at, is_shown, shown_planned, Leaves, leaves_shown, shown_fixed}
 
 -- chapters with a table that passes the tests
 record Shows (c : Cell) (rs : Chapters) (entries bytes : ℕ) (table ranks stages : List ℕ) : Type 0 where
@@ -140,13 +140,20 @@ longer_keeps =
     closed_keeps side_cell (single_recipe 1) computed.longer_sized longer_table longer_ranks computed.longer_closed
     (omega (arith, computed.longer_positions, computed.longer_entries)) (λ none. omega (arith, computed.longer_begun, none))
 
--- but it is no plan any more
-pub longer_not : (before : List ℕ) (refused : Bool) → Planned side_cell (single_recipe 1 ∷ []) side_measures before longer_table refused → ⊥
-longer_not before refused plan =
+-- but its entries are not the fixed ones any more
+pub longer_not :
+    (before : List ℕ) (refused : Bool)
+    → Planned side_cell (single_recipe 1 ∷ []) side_measures before longer_table refused
+    → Fixed side_cell (single_recipe 1 ∷ []) side_measures longer_table
+    → ⊥
+longer_not before refused plan fixed =
     let S = computed.side in
     let K = fine_checked side_cell (single_recipe 1 ∷ []) 48 6 S.fine in
     let shown = shown_planned side_cell (single_recipe 1 ∷ []) K side_table side_ranks (lost_at_once side_table 48) S.shown
     (omega (arith, S.fine.all, S.enough)) in
+    let shown_ways = shown_fixed side_cell (single_recipe 1 ∷ []) K side_table side_ranks (lost_at_once side_table 48) S.shown
+    (omega (arith, S.fine.all, S.enough)) in
     let same : get_or longer_table 0 0 ≡ get_or side_table 0 0 =
-    same_number side_cell (single_recipe 1 ∷ []) side_measures K before longer_table side_table side_table refused _ plan shown 0 (omega (arith, S.fine.all)) in
+    same_number side_cell (single_recipe 1 ∷ []) side_measures K before longer_table side_table side_table refused _ plan shown fixed shown_ways
+    0 (omega (arith, S.fine.all)) in
     omega (arith, computed.longer_first, computed.side_first)

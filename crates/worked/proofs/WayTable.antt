@@ -11,8 +11,8 @@ use Rattle.steps.specs.Effect.{opens}
 use Rattle.chapters.specs.Joined.{first_point}
 use Rattle.run.specs.Book.{Call}
 use Rattle.run.specs.Promises.{Promises}
-use Rattle.simulation.specs.Plan.{Planned}
-use Rattle.planner.specs.Call.{PlanCall}
+use Rattle.simulation.specs.Plan.{Planned, Fixed}
+use Rattle.planner.specs.Call.{PlanCall, FixedCall}
 use Rattle.worked.specs.Moves.{bench_cell, bench_recipe, bench_table}
 use Rattle.worked.specs.Installed.{single_recipe}
 use Rattle.worked.specs.Ways.{either_cell, either_recipe, either_table, side_cell, side_table, longer_table, outcome_cell, outcome_recipe, under_test, outcome_table}
@@ -26,6 +26,7 @@ pub record WayTable : Type 0 where
   pub of_bench_calls :
       (table scratch table' scratch' : List ℕ) (verdict : Verdict)
       → PlanCall bench_cell (bench_recipe ∷ []) table scratch table' scratch' verdict
+      → FixedCall bench_cell (bench_recipe ∷ []) table scratch table'
       → 90 ≤ length table
       → 12 ≤ length scratch
       → (n : ℕ)
@@ -43,14 +44,18 @@ pub record WayTable : Type 0 where
   -- the joined recipe's next positions: by itself the chapter carries at once, and with another behind it it does not
   pub of_chapter_alone : Leaves ahead_cell (single_recipe 1 ∷ []) 16 2 alone_table
   pub of_chapters : Leaves ahead_cell ahead_chapters 32 2 ahead_table
-  -- "Tables written before may still be run.": one that takes the longer way keeps every promise, and is no plan any more
+  -- "Tables written before may still be run.": one that takes the longer way keeps every promise, and its entries are not the fixed ones
   pub of_stored : (calls : List Call) → Promises side_cell (single_recipe 1 ∷ []) side_measures longer_table first_point start calls
-  pub of_stored_plan : (before : List ℕ) (refused : Bool) → Planned side_cell (single_recipe 1 ∷ []) side_measures before longer_table refused → ⊥
+  pub of_stored_plan :
+      (before : List ℕ) (refused : Bool)
+      → Planned side_cell (single_recipe 1 ∷ []) side_measures before longer_table refused
+      → Fixed side_cell (single_recipe 1 ∷ []) side_measures longer_table
+      → ⊥
 
 pub way_table : WayTable
 way_table =
     record {
-      of_bench_calls = table_called;
+      of_bench_calls = λ table scratch table' scratch' verdict call fixed long wide. table_called table scratch table' scratch' verdict call long wide fixed;
       of_letters = either_left;
       of_other_letters = computed.other_letters;
       of_lengths = side_left;
