@@ -12,6 +12,9 @@ use crate::roots::{Calls, Root};
 /// Names of the prelude, which need no import.
 const PRELUDE: &[&str] = &["⊥", "¬", "Dec"];
 
+/// Types of the code that need no import.
+const PLAIN_TYPES: &[&str] = &["Option", "Result", "Vec", "String", "Box"];
+
 /// The constructors of the toolchain's types. A pattern takes any other imported name for a variable.
 const CONSTRUCTORS: &[&str] = &["zero", "suc", "true", "false", "[]", "◌∷◌"];
 
@@ -310,8 +313,22 @@ impl<'a> Library<'a> {
         let own = path.split('/').nth(1).unwrap_or_default();
         let file = self.rattle(path)?;
         let used = file.uses.iter().find(|(_, used)| *used == name);
-        let home = used.map_or(own, |&(home, _)| if home == "crate" { own } else { home });
-        self.declared_type(home, name)
+        let crates = &self.repository.crates;
+        let toolchain = |home: &str| Ok(Meaning::Toolchain(home.to_string(), name.to_string()));
+        match used {
+            Some(&(home, _)) if crates.iter().any(|name| name == home) => {
+                self.declared_type(home, name)
+            }
+            Some(&(home, _)) if !self.is_own_path(own, home) => toolchain(home),
+            None if PLAIN_TYPES.contains(&name) => toolchain("std"),
+            _ => self.declared_type(own, name),
+        }
+    }
+
+    /// Whether a path of a crate's code begins in the crate itself.
+    fn is_own_path(&self, own: &str, first: &str) -> bool {
+        let module = format!("crates/{own}/src/{first}.rt");
+        ["crate", "self", "super"].contains(&first) || self.repository.files.contains_key(&module)
     }
 
     fn declared_type(&mut self, home: &str, name: &str) -> Result<Meaning, String> {

@@ -255,6 +255,22 @@ fn what_a_file_of_today_may_have() {
 }
 
 #[test]
+fn types_of_the_toolchain_are_listed_and_not_followed() {
+    let call = "use std::fmt::Error;\nuse inner::Held;\n\
+                pub fn call(x: Held) -> Result<Option<Own>, Error> {\n    0\n}\n\
+                pub struct Own(u8);\n";
+    let files = [
+        ("crates/top/src/lib.rt", call),
+        ("crates/top/src/inner.rt", "pub struct Held(Vec<u8>);\n"),
+    ];
+    let reading = Reading::of(&Repository::new(CRATES, files), CALL);
+    assert_reaches(&reading, &[]);
+    assert_eq!(names(&reading.types), ["Held", "Own"]);
+    let listed = Vec::from_iter(reading.toolchain["std"].iter().cloned());
+    assert_eq!(listed, ["Error", "Option", "Result", "Vec"]);
+}
+
+#[test]
 fn a_crate_may_have_its_kind_before_the_colon() {
     let list = "# The crates.\nlow:\n\nffi staticlib: low\n# top:\nlast\n";
     assert_eq!(Repository::new(list, []).crates, ["low", "ffi", "last"]);
