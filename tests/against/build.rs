@@ -9,14 +9,15 @@ fn main() {
         .ancestors()
         .nth(2)
         .expect("the package stands two folders below the workspace");
-    let folder = root.join("target").join("staticlib");
+    let home = root.join("crates").join("capi");
+    let folder = home.join("out");
     let archive = folder.join("libcapi.a");
     println!("cargo:rerun-if-changed={}", archive.display());
     assert!(
         archive.is_file(),
-        "{} is missing: make it with `rt staticlib capi` in {}",
+        "{} is missing: make it with `rt lib` in {}",
         archive.display(),
-        root.display()
+        home.display()
     );
     println!("cargo:rustc-link-search=native={}", folder.display());
     println!("cargo:rustc-link-lib=static=capi");

@@ -61,7 +61,7 @@ fn compile(name: &str) -> PathBuf {
         .arg("-o")
         .arg(&program)
         .arg(root().join(format!("examples/c/{name}.c")))
-        .arg(root().join("target/staticlib/libcapi.a"))
+        .arg(root().join("crates/capi/out/libcapi.a"))
         .status()
         .expect("cc starts");
     assert!(status.success(), "cc: {status}");

@@ -50,10 +50,10 @@ fn root() -> &'static Path {
 
 /// The program, which the prover leaves behind.
 fn program() -> PathBuf {
-    let program = root().join("target/bin/walk");
+    let program = root().join("crates/walk/out/walk");
     assert!(
         program.is_file(),
-        "{} is missing: make it with `rt check walk`",
+        "{} is missing: make it with `rt ci`, or with `rt run` in crates/walk",
         program.display()
     );
     program

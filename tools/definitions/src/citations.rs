@@ -8,7 +8,7 @@ use crate::words::Tree;
 /// Words of the language and of contracts.
 const RESERVED: &[&str] = &[
     "→", "λ", "∀", "=", ":", ".", ",", ";", "@", "_", "|", "↦", "let", "in", "record", "data",
-    "where", "module", "pub", "Type", "×", "↔", "⌜", "⌝", "now",
+    "where", "module", "pub", "Type", "×", "↔",
 ];
 
 /// A name, with the module or the type that stands before it as in `module.name`.
@@ -50,14 +50,14 @@ pub fn cited_by<'a>(
     reader.cited
 }
 
-/// What a contract cites, the function's parameters being bound.
+/// What a contract cites, the function's parameters and its result being bound.
 pub fn cited_in_contract<'a>(
     contract: &[Tree<'a>],
     parameters: &[&'a str],
 ) -> BTreeSet<Citation<'a>> {
     let mut reader = Reader {
         is_constructor: &|_| false,
-        bound: parameters.to_vec(),
+        bound: [parameters, &["result"]].concat(),
         cited: BTreeSet::new(),
     };
     reader.term(contract);

@@ -53,6 +53,7 @@ impl<'a> Rattle<'a> {
         let mut at = 0;
         while at < trees.len() {
             let next = match trees[at].leaf().map(|word| word.text) {
+                Some(text) if text.starts_with("#!") => after_attribute(trees, at),
                 Some("use") => self.add_use(trees, start, at),
                 Some("struct" | "enum") => self.add_type(trees, start, at),
                 Some("impl") => self.add_impl(trees, at),
@@ -75,8 +76,10 @@ impl<'a> Rattle<'a> {
         if trees[start].is("ghost") {
             self.imports.extend(imports(&words));
         } else if let Some((home, path)) = words.first()?.text.split_once("::") {
-            let name = path.rsplit("::").next().unwrap_or(path);
-            self.uses.push((home, name));
+            let listed = words[1..].iter().map(|word| word.text);
+            let names = std::iter::once(path).chain(listed).map(last_segment);
+            let names = names.filter(|name| !["", "{", "}", ","].contains(name));
+            self.uses.extend(names.map(|name| (home, name)));
         }
         Some(end + 1)
     }
@@ -127,8 +130,9 @@ impl<'a> Rattle<'a> {
         loop {
             let tree = trees.get(end)?;
             if tree.is("requires") || tree.is("ensures") {
-                contracts.push(trees.get(end + 1)?.group("{")?.to_vec());
-                end += 1;
+                // A clause may have a name before its braces.
+                end += 1 + usize::from(trees.get(end + 1)?.leaf().is_some());
+                contracts.push(trees.get(end)?.group("{")?.to_vec());
             } else if tree.group("{").is_some() {
                 break;
             } else {
@@ -151,6 +155,17 @@ impl<'a> Rattle<'a> {
         });
         Some(end + 1)
     }
+}
+
+/// What follows an attribute of the file itself, `#![..]`.
+fn after_attribute(trees: &[Tree], at: usize) -> Option<usize> {
+    let ends = |tree: &Tree| tree.leaf().is_some_and(|word| word.text.ends_with(']'));
+    Some(at + trees[at..].iter().position(ends)? + 1)
+}
+
+/// The last name of a path, none if it ends with `::`.
+fn last_segment(path: &str) -> &str {
+    path.rsplit("::").next().unwrap_or(path)
 }
 
 /// A name without the lifetimes that follow it.

@@ -12,8 +12,11 @@ use crate::roots::{Calls, Root};
 /// Names of the prelude, which need no import.
 const PRELUDE: &[&str] = &["⊥", "¬", "Dec"];
 
+/// Types of the code that need no import.
+const PLAIN_TYPES: &[&str] = &["Option", "Result", "Vec", "String", "Box"];
+
 /// The constructors of the toolchain's types. A pattern takes any other imported name for a variable.
-const CONSTRUCTORS: &[&str] = &["zero", "suc", "true", "false", "[]", "_∷_"];
+const CONSTRUCTORS: &[&str] = &["zero", "suc", "true", "false", "[]", "◌∷◌"];
 
 /// Something to read.
 #[derive(Clone, Debug, PartialEq, Eq, PartialOrd, Ord)]
@@ -232,7 +235,7 @@ impl<'a> Library<'a> {
         let mut constructors: BTreeSet<&str> = own.copied().collect();
         for import in &file.imports {
             let Some(name) = import.name else { continue };
-            let is_constructor = match module_of(&import.path) {
+            let is_constructor = match self.module_of(&import.path) {
                 Module::Toolchain => CONSTRUCTORS.contains(&name),
                 Module::Type { variants, .. } => variants,
                 Module::File(path) => self.antt(&path).is_ok_and(|file| {
@@ -268,9 +271,28 @@ impl<'a> Library<'a> {
         Ok(None)
     }
 
+    /// The module that a path names: one of the repository's crates, or else the toolchain's.
+    fn module_of(&self, path: &[&str]) -> Module {
+        let ["Rattle", home, below @ ..] = path else {
+            return Module::Toolchain;
+        };
+        if !self.repository.crates.iter().any(|name| name == home) {
+            return Module::Toolchain;
+        }
+        let home = home.to_string();
+        match below {
+            ["specs", "declared", inner @ .., "TheVariants"] => type_in(home, inner, true),
+            ["specs", "declared", inner @ ..] => type_in(home, inner, false),
+            [folder @ ("specs" | "proofs"), name] => {
+                Module::File(format!("crates/{home}/{folder}/{name}.antt"))
+            }
+            _ => Module::Unknown,
+        }
+    }
+
     /// What a module has under the name.
     fn named_in(&mut self, path: &[&str], name: &str, citing: &str) -> Result<Meaning, String> {
-        match module_of(path) {
+        match self.module_of(path) {
             Module::Toolchain => Ok(Meaning::Toolchain(path.join("."), name.to_string())),
             Module::Type { home, name, .. } => self.declared_type(&home, &name),
             Module::File(path) => match self.antt(&path)?.find(name) {
@@ -291,8 +313,22 @@ impl<'a> Library<'a> {
         let own = path.split('/').nth(1).unwrap_or_default();
         let file = self.rattle(path)?;
         let used = file.uses.iter().find(|(_, used)| *used == name);
-        let home = used.map_or(own, |&(home, _)| if home == "crate" { own } else { home });
-        self.declared_type(home, name)
+        let crates = &self.repository.crates;
+        let toolchain = |home: &str| Ok(Meaning::Toolchain(home.to_string(), name.to_string()));
+        match used {
+            Some(&(home, _)) if crates.iter().any(|name| name == home) => {
+                self.declared_type(home, name)
+            }
+            Some(&(home, _)) if !self.is_own_path(own, home) => toolchain(home),
+            None if PLAIN_TYPES.contains(&name) => toolchain("std"),
+            _ => self.declared_type(own, name),
+        }
+    }
+
+    /// Whether a path of a crate's code begins in the crate itself.
+    fn is_own_path(&self, own: &str, first: &str) -> bool {
+        let module = format!("crates/{own}/src/{first}.rt");
+        ["crate", "self", "super"].contains(&first) || self.repository.files.contains_key(&module)
     }
 
     fn declared_type(&mut self, home: &str, name: &str) -> Result<Meaning, String> {
@@ -340,7 +376,7 @@ fn find_in(declarations: &[Declaration], citation: Citation) -> Option<usize> {
 
 /// How a name is written: whole, and if it is an operator also by each of its parts.
 fn spellings(name: &str) -> Vec<&str> {
-    let parts = name.split('_').filter(|part| !part.is_empty());
+    let parts = name.split('◌').filter(|part| !part.is_empty());
     let parts = parts.filter(|part| *part != name);
     std::iter::once(name).chain(parts).collect()
 }
@@ -382,22 +418,14 @@ enum Module {
     Unknown,
 }
 
-fn module_of(path: &[&str]) -> Module {
-    let first = path.first().copied().unwrap_or_default();
-    let Some(library) = first.strip_prefix("Rattle·") else {
-        return Module::Toolchain;
-    };
-    // In the crate itself the library is `Rattle·NAME·specs` or `Rattle·NAME·proofs`.
-    let home = library.split('·').next().unwrap_or(library).to_string();
-    match &path[1..] {
-        ["specs", "declared", name, below @ ..] => Module::Type {
+/// A struct or enum, with the modules of the code in which it stands before its name.
+fn type_in(home: String, inner: &[&str], variants: bool) -> Module {
+    match inner.last() {
+        Some(name) => Module::Type {
             home,
             name: name.to_string(),
-            variants: below == ["the-variants"],
+            variants,
         },
-        [folder @ ("specs" | "proofs"), name] => {
-            Module::File(format!("crates/{home}/{folder}/{name}.antt"))
-        }
-        _ => Module::Unknown,
+        None => Module::Unknown,
     }
 }

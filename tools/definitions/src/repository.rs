@@ -43,10 +43,11 @@ impl Repository {
         let lines = list
             .lines()
             .map(|line| line.split('#').next().unwrap_or(""));
-        let crates = lines.filter_map(|line| line.split_once(':'));
+        // Between the name and the colon may stand what kind of crate it is.
+        let names = lines.filter_map(|line| line.split([':', ' ']).find(|name| !name.is_empty()));
         let files = files.into_iter();
         Repository {
-            crates: crates.map(|(name, _)| name.trim().to_string()).collect(),
+            crates: names.map(str::to_string).collect(),
             files: files
                 .map(|(path, text)| (path.to_string(), text.to_string()))
                 .collect(),

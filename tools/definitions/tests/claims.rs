@@ -54,7 +54,7 @@ fn reached(calls: Group) -> Vec<Entry> {
 /// Which of them name a definition, but for that definition itself.
 fn naming<'a>(entries: &'a [Entry], definition: &str) -> Vec<&'a str> {
     let names = |text: &str| {
-        text.split(|c: char| !c.is_alphanumeric())
+        text.split(|c: char| !c.is_alphanumeric() && c != '_')
             .any(|word| word == definition)
     };
     let others = entries.iter().filter(|entry| entry.name != definition);
@@ -66,7 +66,7 @@ fn naming<'a>(entries: &'a [Entry], definition: &str) -> Vec<&'a str> {
 
 /// Whether one of them has the rules on records of a call that plans, or of another.
 fn tries(entries: &[Entry], plans: bool) -> bool {
-    let rules = format!("recordRules {plans} ");
+    let rules = format!("record_rules {plans} ");
     entries.iter().any(|entry| entry.text.contains(&rules))
 }
 
@@ -98,9 +98,9 @@ fn the_claims_say_what_to_read() {
 fn only_calls_that_plan_try_rule_22() {
     let (plan, install, others) = (reached(PLAN), reached(INSTALL), reached(OTHERS));
     for entries in [&plan, &install, &others] {
-        assert_eq!(naming(entries, "rule22"), ["chapterRules"]);
-        assert_eq!(naming(entries, "chapterRules"), ["chaptersRules"]);
-        assert_eq!(naming(entries, "chaptersRules"), ["recordRules"]);
+        assert_eq!(naming(entries, "rule22"), ["chapter_rules"]);
+        assert_eq!(naming(entries, "chapter_rules"), ["chapters_rules"]);
+        assert_eq!(naming(entries, "chapters_rules"), ["record_rules"]);
     }
     assert!(tries(&plan, true) && tries(&install, true));
     assert!(tries(&others, false) && !tries(&others, true));

@@ -13,13 +13,19 @@ fn read(path: &Path) -> String {
     fs::read_to_string(path).expect("a file of the repository can be read")
 }
 
-/// The files of definitions and laws below a folder.
+/// The files of definitions, laws and code below a folder.
 fn laws_below(folder: &Path, found: &mut Vec<PathBuf>) {
     for entry in fs::read_dir(folder).expect("a folder of the repository can be read") {
         let path = entry.expect("an entry of the folder can be read").path();
         if path.is_dir() {
-            laws_below(&path, found);
-        } else if path.extension().is_some_and(|kind| kind == "antt") {
+            // What the prover left isn't the repository's.
+            if !path.ends_with("out") {
+                laws_below(&path, found);
+            }
+        } else if path
+            .extension()
+            .is_some_and(|kind| kind == "antt" || kind == "rt")
+        {
             found.push(path);
         }
     }
@@ -55,6 +61,26 @@ fn unfolded(text: &str) -> Vec<String> {
     names
 }
 
+/// The names that a term opens, `unfold a b in ..`, and those that the tactics of a function may, `unfolding(a::b)`.
+fn unfolded_inside(text: &str) -> Vec<String> {
+    let in_terms = text.split("unfold ").skip(1);
+    let in_terms = in_terms.filter_map(|rest| Some(rest.split_once(" in")?.0));
+    let by_tactics = text.split("unfolding(").skip(1);
+    let by_tactics = by_tactics.filter_map(|rest| Some(rest.split_once(')')?.0));
+    let names = in_terms.chain(by_tactics);
+    let names = names.flat_map(|list| list.split([' ', ',', '\n', ':']));
+    let names = names.filter(|name| !name.is_empty());
+    names.map(str::to_owned).collect()
+}
+
+#[test]
+fn names_that_a_term_or_a_tactic_opens_are_read() {
+    let text =
+        "f = unfold a b.c in unfold d in e\n#[tactic(auto, unfolding(crate::specs::M::g, h))]";
+    let expected = ["a", "b.c", "d", "crate", "specs", "M", "g", "h"];
+    assert_eq!(unfolded_inside(text), expected);
+}
+
 #[test]
 fn lists_of_unfolded_names_are_read_to_their_end() {
     let text = "f : A\nunfolding a b.c\n    d\nf = e\n  g : A\n  unfolding h\n  g = i\n";
@@ -69,7 +95,8 @@ fn only_steps_unfolds_how_an_entry_is_decided() {
     laws_below(&root().join("crates"), &mut files);
     let steps = root().join("crates/steps");
     let opened = |file: &PathBuf| {
-        let names = unfolded(&read(file));
+        let text = read(file);
+        let names = [unfolded(&text), unfolded_inside(&text)].concat();
         let last = |name: &String| name.rsplit('.').next().unwrap_or(name).to_owned();
         let found: Vec<String> = names
             .iter()
