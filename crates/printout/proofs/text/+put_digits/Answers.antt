@@ -3,7 +3,7 @@ use mathlib.Core.Path.{ap, ◌∙◌}
 use mathlib.Core.List.{[], ◌∷◌, ◌++◌}
 use Rattle.printout.specs.Text.{digits_of}
 use Rattle.printout.proofs.BufferPieces.{put_nothing, put_then, put_same, digits_few, digits_none, digits_one, digits_more}
-use Prim.Native.Nat.{ℕ, ◌<◌, ◌-◌, ◌/◌}
+use Prim.Native.Nat.{ℕ, ◌-◌, ◌/◌}
 use Rattle.printout.proofs.text.+put_digits.Goals as goal
 
 pub returns-then-most-eq0 : goal.returns-then-most-eq0
@@ -13,7 +13,7 @@ returns-then-most-eq0 t c =
     (put_nothing c.args.text.now c.args.at (omega (arith, c.requires)))
 
 pub put_byte-requires : goal.put_byte-requires
-put_byte-requires t c = 
+put_byte-requires t c =
     omega (arith, c.requires, c.if-most-eq0.false)
 
 pub shape_of-text-then-n-lt10 : goal.shape_of-text-then-n-lt10

@@ -1,5 +1,4 @@
 use Rattle.printout.proofs.BufferPieces.{put_one}
-use borrow.Author.Rules.{rules}
 use Rattle.printout.proofs.text.put_byte.Goals as goal
 
 pub returns : goal.returns

@@ -1,6 +1,5 @@
 use native.Mathlib.Omega.{arith}
 use Rattle.printout.proofs.BufferPieces.{put_stored}
-use borrow.Author.Rules.{rules}
 use Rattle.printout.proofs.text.put_bytes.Goals as goal
 
 pub put-requires : goal.put-requires

@@ -1,7 +1,6 @@
 use native.Mathlib.Omega.{arith}
 use Rattle.printout.specs.Text.{field}
 use Rattle.printout.proofs.BufferPieces.{put_then, digits_few}
-use borrow.Author.Rules.{rules}
 use Rattle.printout.proofs.text.put_field.Goals as goal
 
 pub put_byte-requires : goal.put_byte-requires

@@ -1,7 +1,6 @@
 use native.Mathlib.Omega.{arith}
 use Rattle.printout.specs.Text.{move_line}
 use Rattle.printout.proofs.BufferPieces.{put_then, field_few}
-use borrow.Author.Rules.{rules}
 use Rattle.printout.proofs.text.put_move.Goals as goal
 
 pub put_field-second-requires : goal.put_field-second-requires

@@ -1,6 +1,5 @@
 use Rattle.printout.specs.Text.{refusal_line}
 use Rattle.printout.proofs.BufferPieces.{put_then}
-use borrow.Author.Rules.{rules}
 use Rattle.printout.proofs.text.put_refusal.Goals as goal
 
 pub returns : goal.returns

@@ -9,7 +9,6 @@ use Rattle.run.specs.declared.Move.{Move}
 use Rattle.run.specs.Calls.{next_move, report_of}
 use Rattle.printout.specs.Turn.{position_in}
 use Rattle.printout.proofs.ByteAnswers.{byte_below, byte_above, report_made, report_refused}
-use borrow.Author.Rules.{rules}
 use Rattle.printout.proofs.turn.answer.Goals as goal
 
 pub returns-then-byte-lt48 : goal.returns-then-byte-lt48

@@ -1,11 +1,7 @@
-use mathlib.Core.Path.{◌≡◌, refl, ◌∙◌}
-use mathlib.Core.Bool.{true}
-use Prim.Native.Nat.{◌-◌, ◌*◌, ◌≤◌}
+use mathlib.Core.Path.{refl, ◌∙◌}
 use native.Mathlib.Omega.{arith}
-use lib.ListN.{length, take}
 use borrow.Author.Tests.{not-true, not-false}
 use Rattle.records.specs.Encoding.{recipe_from}
-use Rattle.printout.specs.Turn.{Answers}
 use Rattle.printout.proofs.InputInParts.{answers_none, answers_next, answers_few, answers_ended, answers_all}
 use Rattle.printout.proofs.turn.answers.Goals as goal
 

@@ -1,16 +1,13 @@
-use mathlib.Core.Path.{◌≡◌, refl, ◌∙◌}
+use mathlib.Core.Path.{◌≡◌}
 use mathlib.Core.Bool.{true}
 use Prim.Native.Nat.{◌-◌, ◌*◌, ◌≤◌}
-use native.Mathlib.Omega.{arith}
 use lib.ListN.{length, take}
-use borrow.Author.Tests.{not-true, not-false}
 use Rattle.records.specs.Encoding.{recipe_from}
 use Rattle.printout.specs.Turn.{Answers}
-use Rattle.printout.proofs.InputInParts.{answers_none, answers_next, answers_few, answers_ended, answers_all}
 use Rattle.printout.proofs.turn.answers.Given as goal
 
 abbrev pub invariant-loop-i : goal.invariant-loop-i
-invariant-loop-i l =     (length l.recipes ≡ 449) × (l.i ≤ length l.bytes) × (64 * length l.bytes ≤ length l.initial.text) × (length l.text ≡ length l.initial.text) × (l.all.length ≤ 64 * l.i)
+invariant-loop-i l = (length l.recipes ≡ 449) × (l.i ≤ length l.bytes) × (64 * length l.bytes ≤ length l.initial.text) × (length l.text ≡ length l.initial.text) × (l.all.length ≤ 64 * l.i)
     × (l.all.more ≡ true) × Answers l.cell (recipe_from l.recipes) l.table l.initial.all.run (take l.i l.bytes) l.text l.all
 
 abbrev pub decreases-loop-i : goal.decreases-loop-i

@@ -5,7 +5,6 @@ use Rattle.positions.specs.Position.{position_of}
 use Rattle.positions.specs.Rules.{is_position}
 use Rattle.positions.proofs.AcceptedRecords.{both_ok}
 use Rattle.printout.proofs.RunPosition.{no_records, no_position, at_position}
-use borrow.Author.Rules.{rules}
 use Rattle.printout.proofs.turn.position_of.Goals as goal
 
 pub returns-in_default : goal.returns-in_default
@@ -36,9 +35,9 @@ returns-then-not-is_position c =
 
 pub position-requires : goal.position-requires
 position-requires c = record {
-      fitting = c.measure-sizes.ensures.1;
-      configuration_value = sym c.is_position.ensures ∙ not-false _ c.if-not-is_position.false-raw;
-    }
+  fitting = c.measure-sizes.ensures.1;
+  configuration_value = sym c.is_position.ensures ∙ not-false _ c.if-not-is_position.false-raw;
+}
 
 pub returns : goal.returns
 returns c =

@@ -4,7 +4,6 @@ use Rattle.chapters.specs.Records.{chapters_from}
 use Rattle.chapters.proofs.AcceptedChapters.{seen_at}
 use Rattle.run.specs.Inner.{find_entry}
 use Rattle.run.proofs.Answers.{kept, next_refused, next_shut, next_open}
-use borrow.Author.Rules.{rules}
 use Rattle.run.proofs.Run.next_move.Goals as goal
 
 pub check_records-tried-requires : goal.check_records-tried-requires

@@ -14,7 +14,6 @@ use Rattle.chapters.proofs.AcceptedChapters.{seen_at}
 use Rattle.run.specs.Calls.{run_rules, place_rules, part_place}
 use Rattle.run.proofs.CountedRules.{cell_passed, small, Measured, run_rules_lem}
 use Rattle.run.proofs.Answers.{place_answer, place_refused, place_accepted, place_past, place_there}
-use borrow.Author.Rules.{rules}
 use Rattle.run.proofs.Run.place.Goals as goal
 
 pub check_records-tried-requires : goal.check_records-tried-requires
@@ -41,9 +40,9 @@ measure_for-sizes-requires c =
 
 pub with_points-own-requires : goal.with_points-own-requires
 with_points-own-requires c = record {
-      fitting = c.measure_for-sizes.ensures.1;
-      points_bound = (small _ _ _ _ c.check_records-tried.ensures c.in-Accepted.is).own;
-    }
+  fitting = c.measure_for-sizes.ensures.1;
+  points_bound = (small _ _ _ _ c.check_records-tried.ensures c.in-Accepted.is).own;
+}
 
 pub returns-in_default-placed : goal.returns-in_default-placed
 unfolding part_place place_answer place_rules

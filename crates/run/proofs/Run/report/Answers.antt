@@ -6,7 +6,6 @@ use Rattle.run.specs.declared.Run.{Run}
 use Rattle.run.specs.Inner.{find_entry}
 use Rattle.run.proofs.AcceptedRun.{lead_below}
 use Rattle.run.proofs.Answers.{Kept, kept, Made, report_early, report_17, report_18, report_19, report_stays, report_lands}
-use borrow.Author.Rules.{rules}
 use Rattle.run.proofs.Run.report.Goals as goal
 
 pub check_records-tried-requires : goal.check_records-tried-requires

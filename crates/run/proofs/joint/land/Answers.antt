@@ -1,5 +1,4 @@
 use Rattle.run.proofs.JointPassed.{joint_passed, joint_ahead}
-use borrow.Author.Rules.{rules}
 use Rattle.run.proofs.joint.land.Goals as goal
 
 pub returns-then-point_kind-eq0 : goal.returns-then-point_kind-eq0

@@ -5,7 +5,6 @@ use Rattle.refusals.proofs.Verdicts.{no_line_broken, no_line_kept}
 use Rattle.refusals.proofs.Rules.{refuses, accepts, decides}
 use Rattle.refusals.specs.declared.Refusal.TheVariants.{TooShort, RunRange}
 use Rattle.positions.specs.Rules.{rule16}
-use borrow.Author.Rules.{rules}
 use Rattle.run.specs.Inner.{table_rules_by}
 use Rattle.run.proofs.rules.check_table.Goals as goal
 
