@@ -1,7 +1,8 @@
--- Reads of standard input (InputReads), the files and the plan (FilesDecide), that the output is determined (SamePrintout, OneOutput),
--- and the bench example (Example).
+-- Reads of standard input (InputReads), the files and the plan (FilesDecide), reads into the rest of a buffer (StartFilled), that the
+-- output is determined (SamePrintout, OneOutput), and the bench example (Example).
 mod InputReads
 mod FilesDecide
+mod StartFilled
 mod SamePrintout
 pub mod OneOutput
 pub mod Example

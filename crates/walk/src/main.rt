@@ -2,11 +2,12 @@
 // by the outcomes that standard input gives.
 #![tactic(auto)]
 
-ghost use Rattle.std.specs.Prelude.{◌≡◌, [], ◌∷◌, ◌*◌, ◌≤◌, length};
+ghost use Rattle.std.specs.Prelude.{◌≡◌, false, [], ◌∷◌, ◌*◌, ◌≤◌, length, take, IsTrue};
+ghost use Rattle.std.specs.Io.KnownBytes.{Appends, Consumes};
 ghost use Rattle.refusals.specs.Verdict.{first_refusal};
 ghost use Rattle.records.specs.Encoding.{recipe_from};
 ghost use Rattle.walk.specs.Counts.{IsPrefixLen};
-ghost use Rattle.walk.specs.Output.{below, CellRead, RecipeRead, Prepared, Stepped, Followed};
+ghost use Rattle.walk.specs.Output.{below, CellRead, RecipeRead, Prepared, Stepped, Followed, FollowedOn, Walk};
 
 use cell::{Cell, CellReading};
 use recipe::RecipeReading;
@@ -84,7 +85,9 @@ fn say_why<E: Eprint>(errors: &E, error: io::Error) {
 
 // Hands a text to standard output; where writing fails it says why.
 fn print<O: Write, E: Eprint>(printer: &mut Printer<O, E>, text: &[u8]) -> Printed
-    ensures { result.length ≡ length text.now }
+    ensures length { result.length ≡ length text.now }
+    ensures written { result.failed ≡ false
+        → Appends (O.contents printer.old.output) (O.contents printer.new.output) text.now }
 {
     let length = text.len();
     match printer.output.write_all(text) {
@@ -104,7 +107,9 @@ fn print<O: Write, E: Eprint>(printer: &mut Printer<O, E>, text: &[u8]) -> Print
 
 // Prints the line of a verdict that refuses.
 fn print_refusal<O: Write, E: Eprint>(printer: &mut Printer<O, E>, verdict: Verdict) -> Printed
-    ensures { result.length ≡ length (below verdict []) }
+    ensures length { result.length ≡ length (below verdict []) }
+    ensures written { result.failed ≡ false
+        → Appends (O.contents printer.old.output) (O.contents printer.new.output) (below verdict []) }
 {
     let Verdict::Refused(refusal, _) = verdict else {
         return Printed {
@@ -119,7 +124,8 @@ fn print_refusal<O: Write, E: Eprint>(printer: &mut Printer<O, E>, verdict: Verd
 
 // One read; one that fails gives no bytes, as one at the end.
 fn read_some<I: Read>(input: &mut I, bytes: &mut [u8]) -> usize
-    ensures { IsPrefixLen result bytes.new }
+    ensures inside { IsPrefixLen result bytes.new }
+    ensures read { Consumes (I.remaining input.old) (I.remaining input.new) (take result bytes.new) }
 {
     match input.read(bytes) {
         Ok(got) => got,
@@ -130,7 +136,8 @@ fn read_some<I: Read>(input: &mut I, bytes: &mut [u8]) -> usize
 // Reads until the buffer is full or a read gives nothing, and answers how many bytes stand at its
 // start.
 fn read_full<I: Read>(input: &mut I, start: &mut [u8]) -> usize
-    ensures { IsPrefixLen result start.new }
+    ensures inside { IsPrefixLen result start.new }
+    ensures read { Consumes (I.remaining input.old) (I.remaining input.new) (take result start.new) }
 {
     let mut done = 0;
     while done < start.len() {
@@ -223,7 +230,10 @@ fn take_some<I: Read, O: Write, E: Eprint>(
 ) -> Step
     requires recipes_len { length recipes.now ≡ 449 }
     requires bytes_in_bounds { 64 * length bytes.old ≤ length text.old }
-    ensures { Stepped cell (recipe_from recipes.now) table.now run bytes.new text.new result }
+    ensures stepped { Stepped cell (recipe_from recipes.now) table.now run bytes.new text.new result }
+    ensures read { Consumes (I.remaining input.old) (I.remaining input.new) (take result.got bytes.new) }
+    ensures written { result.failed ≡ false
+        → Appends (O.contents printer.old.output) (O.contents printer.new.output) (take result.length text.new) }
 {
     let got = read_some(input, bytes);
     if got == 0 {
@@ -268,7 +278,10 @@ fn follow<I: Read, O: Write, E: Eprint>(
     reads: u64,
 ) -> Step
     requires { length recipes.now ≡ 449 }
-    ensures { Followed cell (recipe_from recipes.now) table.now reads result }
+    ensures followed { Followed cell (recipe_from recipes.now) table.now reads result }
+    ensures streams { FollowedOn cell (recipe_from recipes.now) table.now reads result
+        (I.remaining input.old) (I.remaining input.new)
+        (O.contents printer.old.output) (O.contents printer.new.output) }
 {
     let mut bytes = [0u8; 1024];
     let mut text = [0u8; 65536];
@@ -289,31 +302,37 @@ fn follow<I: Read, O: Write, E: Eprint>(
     step
 }
 
+// Prints the names, and below them the refusal or the lines of the moves. Answers whether all of it
+// was written.
+fn plan_and_follow<F: Files, I: Read, O: Write, E: Eprint>(
+    files: &F,
+    input: &mut I,
+    printer: &mut Printer<O, E>,
+) -> bool
+    ensures { IsTrue result → Walk (I.remaining input.old) (I.remaining input.new)
+        (O.contents printer.old.output) (O.contents printer.new.output) }
+{
+    let names = print(printer, b"position,entry,next\n");
+    if names.failed {
+        return false;
+    }
+    let mut recipes = [0u8; 449];
+    let mut table = [0u32; 8192];
+    let ready = prepare(files, &mut recipes, &mut table);
+    let verdict = ready.verdict;
+    let Verdict::Accepted = verdict else {
+        let line = print_refusal(printer, verdict);
+        return !line.failed;
+    };
+    // No walk uses up so many reads.
+    let last = follow(input, printer, ready.cell, &recipes, &table, u64::MAX);
+    !last.failed
+}
+
 fn main(rt: HostRuntime) {
     let mut printer = Printer {
         output: rt.stdout(),
         errors: rt.stderr(),
     };
-    let names = print(&mut printer, b"position,entry,next\n");
-    if names.failed {
-        return;
-    }
-    let mut recipes = [0u8; 449];
-    let mut table = [0u32; 8192];
-    let ready = prepare(&rt, &mut recipes, &mut table);
-    let verdict = ready.verdict;
-    let Verdict::Accepted = verdict else {
-        print_refusal(&mut printer, verdict);
-        return;
-    };
-    let mut input = rt.stdin();
-    // No walk uses up so many reads.
-    follow(
-        &mut input,
-        &mut printer,
-        ready.cell,
-        &recipes,
-        &table,
-        u64::MAX,
-    );
+    plan_and_follow(&rt, &mut rt.stdin(), &mut printer);
 }
