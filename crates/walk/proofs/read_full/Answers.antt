@@ -10,6 +10,6 @@ loop-done-preserved g c =
     record {
       inside = search rules;
       taken =
-          subst (Consumes _ _) (sym (start_filled _ _ _ c.loop-done.start read.new.bytes c.loop-done.invariant.inside read.ensures.bound.0))
-          (Consumes-trans _ _ _ _ _ c.loop-done.invariant.taken read.ensures.bytes);
+          subst (Consumes _ _) (sym (start_filled _ _ _ c.loop-done.start read.new.bytes c.loop-done.invariant.inside read.ensures.inside.0))
+          (Consumes-trans _ _ _ _ _ c.loop-done.invariant.taken read.ensures.read);
     }
