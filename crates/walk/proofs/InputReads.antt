@@ -170,17 +170,17 @@ module _ (c : Cell) (r : Recipe) (table : List ℕ) where
       (read : Consumes has has' (take after.got bytes))
       (written : after.failed ≡ false → Appends holds holds' (take after.length text))
     where
-    pub following_on_next : FollowingOn reads (left - 1) after had has' held holds'
-    unfolding following_next
-    following_on_next =
-        record {
-          following = following_next reads left some before after bytes text F.following on S;
-          read = Consumes-trans had has has' F.following.input (take after.got bytes) F.read read;
-          lines = λ kept.
-              subst (Appends held holds') (sym (handed_next reads left some before after bytes text F.following on S))
-              (Appends-trans held holds holds' _ _ (F.lines (F.unfailed on)) (written kept));
-          unfailed = kept reads left some before after bytes text F.following on S;
-        }
+      pub following_on_next : FollowingOn reads (left - 1) after had has' held holds'
+      unfolding following_next
+      following_on_next =
+          record {
+            following = following_next reads left some before after bytes text F.following on S;
+            read = Consumes-trans had has has' F.following.input (take after.got bytes) F.read read;
+            lines = λ kept.
+                subst (Appends held holds') (sym (handed_next reads left some before after bytes text F.following on S))
+                (Appends-trans held holds holds' _ _ (F.lines (F.unfailed on)) (written kept));
+            unfailed = kept reads left some before after bytes text F.following on S;
+          }
 
   module _ (reads left : ℕ) (step : Step) (had has held holds : Option (List ℕ)) (F : FollowingOn reads left step had has held holds) where
     pub followed_on_all : left ≡ 0 → FollowedOn c r table reads step had has held holds
