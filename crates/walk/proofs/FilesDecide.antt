@@ -43,19 +43,27 @@ recipe_start n start long is = (take n start, is ∙ ap read_recipe (sym (in_sta
 pub recipe_none : {reading : RecipeReading} → reading ≡ read_recipe [] → RecipeRead reading
 recipe_none is = ([], is)
 
--- how many bytes are handed over below the first line
-pub none_handed : {verdict : Verdict} → verdict ≡ Accepted → 0 ≡ length (below verdict [])
+-- what is handed over below the first line, and how many bytes that are
+pub none_below : {verdict : Verdict} → verdict ≡ Accepted → [] ≡ below verdict []
 unfolding below
-none_handed is = rw is
+none_below is = ap (λ (v : Verdict). below v []) (sym is)
+
+pub line_below : {verdict : Verdict} {refusal : Refusal} {line number end : ℕ} {entry exit : List ℕ}
+    → verdict ≡ Refused refusal line → number ≡ number_of refusal
+    → Put entry exit 0 (refusal_line number) end
+    → take end exit ≡ below verdict []
+unfolding below
+line_below is numbered put = put.bytes_are ∙ ap refusal_line numbered ∙ ap (λ (v : Verdict). below v []) (sym is)
+
+pub none_handed : {verdict : Verdict} → verdict ≡ Accepted → 0 ≡ length (below verdict [])
+none_handed is = ap (λ (l : List ℕ). length l) (none_below is)
 
 pub line_handed : {verdict : Verdict} {refusal : Refusal} {line number end handed : ℕ} {entry exit : List ℕ}
     → verdict ≡ Refused refusal line → number ≡ number_of refusal
     → Put entry exit 0 (refusal_line number) end
     → handed ≡ length (take end exit)
     → handed ≡ length (below verdict [])
-unfolding below
-line_handed is numbered put whole =
-    whole ∙ ap (λ (l : List ℕ). length l) (put.bytes_are ∙ ap refusal_line numbered) ∙ ap (λ (v : Verdict). length (below v [])) (sym is)
+line_handed is numbered put whole = whole ∙ ap (λ (l : List ℕ). length l) (line_below is numbered put)
 
 -- a reader's record has all of its fields, refused or not
 whole_read : (file : List ℕ) → WholeRecipe (read_recipe file).recipe

@@ -1,6 +1,8 @@
 -- "`walk` reads the first 8192 bytes of `cell.csv` and then, unless that is refused, of `recipe.csv` .. and digits from
 -- standard input": what it reads, decides and prints. Assumes nothing.
 use Rattle.std.specs.Prelude.{◌≡◌, true, false, List, [], ◌∷◌, ◌++◌, ℕ, ◌*◌, ◌≤◌, length, take}
+use Rattle.std.specs.declared.option.Option.{Option}
+use Rattle.std.specs.Io.KnownBytes.{Appends, Consumes}
 use Rattle.refusals.specs.Refusal.{number_of}
 use Rattle.refusals.specs.declared.Verdict.{Verdict}
 use Rattle.refusals.specs.declared.Verdict.TheVariants.{Accepted, Refused}
@@ -96,3 +98,20 @@ pub record Followed (c : Cell) (r : Recipe) (table : List ℕ) (reads : ℕ) (st
   pub goes_on : step.more ≡ true → (walked c r table fresh_run input).more ≡ true
   pub stops : step.more ≡ false → (step.got ≡ 0 → ⊥) → step.failed ≡ false → (walked c r table fresh_run input).more ≡ false
   pub used_up : step.more ≡ true → reads ≤ length input
+
+-- and on streams whose bytes are known, the reader's that are left and the writer's that it holds, before and after: those bytes were read,
+-- and unless a text could not be written, their lines were printed and nothing else
+pub record FollowedOn (c : Cell) (r : Recipe) (table : List ℕ) (reads : ℕ) (step : Step) (left left' held held' : Option (List ℕ)) : Type 0 where
+  pub followed : Followed c r table reads step
+  pub read : Consumes left left' followed.input
+  pub lines : step.failed ≡ false → Appends held held' (printed c r table fresh_run followed.input)
+
+-- a whole walk of which all was written: what was printed is the output for some two files and the bytes that were read
+pub record Walk (left left' held held' : Option (List ℕ)) : Type 0 where
+  pub cell_file : List ℕ
+  pub recipe_file : List ℕ
+  pub input : List ℕ
+  pub text : List ℕ
+  pub output : Output cell_file recipe_file input text
+  pub read : Consumes left left' input
+  pub written : Appends held held' text
