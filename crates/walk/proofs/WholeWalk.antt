@@ -13,9 +13,9 @@ use Rattle.run.specs.Calls.{fresh_run}
 use Rattle.printout.specs.Turn.{printed}
 use Rattle.walk.specs.declared.Ready.{Ready}
 use Rattle.walk.specs.declared.Step.{Step}
-use Rattle.walk.specs.Output.{names_line, below, Prepared, FollowedOn, Walk}
+use Rattle.walk.specs.Output.{names_line, below, FixedPrepared, FollowedOn, Walk}
 
-module _ (recipes table : List ℕ) (ready : Ready) (prepared : Prepared recipes table ready) where
+module _ (recipes table : List ℕ) (ready : Ready) (made : FixedPrepared recipes table ready) where
   -- no input is read where the files or the plan are refused
   pub walk_refused : (left held holds held' : Option (List ℕ))
       → Appends held holds names_line
@@ -24,11 +24,12 @@ module _ (recipes table : List ℕ) (ready : Ready) (prepared : Prepared recipes
   unfolding printed
   walk_refused left held holds held' names line =
       record {
-        cell_file = prepared.cell_file;
-        recipe_file = prepared.recipe_file;
+        cell_file = made.prepared.cell_file;
+        recipe_file = made.prepared.recipe_file;
         input = [];
         text = names_line ++ below ready.verdict [];
-        output = record { table = table; verdict = ready.verdict; decided = prepared.decided; text_is = refl };
+        output = record { table = table; verdict = ready.verdict; decided = made.prepared.decided; text_is = refl };
+        fixed = made.fixed;
         read = Consumes-nil left;
         written = Appends-trans held holds held' names_line (below ready.verdict []) names line;
       }
@@ -44,19 +45,20 @@ module _ (recipes table : List ℕ) (ready : Ready) (prepared : Prepared recipes
       let input = on.followed.input in
       let lines = printed ready.cell (recipe_from recipes) table fresh_run input in
       record {
-        cell_file = prepared.cell_file;
-        recipe_file = prepared.recipe_file;
+        cell_file = made.prepared.cell_file;
+        recipe_file = made.prepared.recipe_file;
         input = input;
         text = names_line ++ lines;
         output =
             record {
               table = table;
               verdict = ready.verdict;
-              decided = prepared.decided;
+              decided = made.prepared.decided;
               text_is =
                   ap (λ (v : Verdict). names_line ++ below v lines) (sym accepted)
-                  ∙ (λ i. names_line ++ below ready.verdict (printed (prepared.cell_is i) (prepared.recipe_is accepted i) table fresh_run input));
+                  ∙ (λ i. names_line ++ below ready.verdict (printed (made.prepared.cell_is i) (made.prepared.recipe_is accepted i) table fresh_run input));
             };
+        fixed = made.fixed;
         read = on.read;
         written = Appends-trans held holds held' names_line lines names (on.lines kept);
       }

@@ -16,7 +16,7 @@ use Rattle.recipe.specs.Reader.{read_recipe}
 use Rattle.records.specs.Encoding.{recipe_from}
 use Rattle.run.specs.declared.Run.{Run}
 use Rattle.run.specs.Calls.{fresh_run}
-use Rattle.planner.specs.Call.{PlanCall}
+use Rattle.planner.specs.Call.{PlanCall, FixedCall}
 use Rattle.walk.specs.declared.Ready.{Ready}
 use Rattle.walk.specs.declared.Step.{Step}
 use Rattle.printout.specs.Text.{refusal_line}
@@ -61,6 +61,14 @@ pub record Decided (cell_file recipe_file table : List ℕ) (verdict : Verdict) 
       → (read_recipe (take 8192 recipe_file)).verdict ≡ Accepted
       → PlanMade (read_cell (take 8192 cell_file)).cell (read_recipe (take 8192 recipe_file)).recipe table plan
 
+-- "Each entry other than 0 at a do or test is now fixed.": of the table that the plan call leaves, where the two files lead to one
+pub record FixedDecided (cell_file recipe_file table : List ℕ) (verdict : Verdict) (decided : Decided cell_file recipe_file table verdict) : Type 0 where
+  pub fixed :
+      (cell_passes : (read_cell (take 8192 cell_file)).verdict ≡ Accepted)
+      → (recipe_passes : (read_recipe (take 8192 recipe_file)).verdict ≡ Accepted)
+      → FixedCall (read_cell (take 8192 cell_file)).cell ((read_recipe (take 8192 recipe_file)).recipe ∷ [])
+      (decided.planned cell_passes recipe_passes).table (decided.planned cell_passes recipe_passes).scratch table
+
 -- what the program has when it begins to follow: the verdict, and the records and the table of two files; the recipe's record as bytes
 pub record Prepared (recipes table : List ℕ) (ready : Ready) : Type 0 where
   pub cell_file : List ℕ
@@ -68,6 +76,11 @@ pub record Prepared (recipes table : List ℕ) (ready : Ready) : Type 0 where
   pub decided : Decided cell_file recipe_file table ready.verdict
   pub cell_is : ready.cell ≡ (read_cell (take 8192 cell_file)).cell
   pub recipe_is : ready.verdict ≡ Accepted → recipe_from recipes ≡ (read_recipe (take 8192 recipe_file)).recipe
+
+-- and of that table
+pub record FixedPrepared (recipes table : List ℕ) (ready : Ready) : Type 0 where
+  pub prepared : Prepared recipes table ready
+  pub fixed : FixedDecided prepared.cell_file prepared.recipe_file table ready.verdict prepared.decided
 
 -- all that is printed for the bytes of two files and of standard input
 pub record Output (cell_file recipe_file input text : List ℕ) : Type 0 where
@@ -113,5 +126,6 @@ pub record Walk (left left' held held' : Option (List ℕ)) : Type 0 where
   pub input : List ℕ
   pub text : List ℕ
   pub output : Output cell_file recipe_file input text
+  pub fixed : FixedDecided cell_file recipe_file output.table output.verdict output.decided
   pub read : Consumes left left' input
   pub written : Appends held held' text

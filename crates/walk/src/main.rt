@@ -7,7 +7,7 @@ ghost use Rattle.std.specs.Io.KnownBytes.{Appends, Consumes};
 ghost use Rattle.refusals.specs.Verdict.{first_refusal};
 ghost use Rattle.records.specs.Encoding.{recipe_from};
 ghost use Rattle.walk.specs.Counts.{IsPrefixLen};
-ghost use Rattle.walk.specs.Output.{below, CellRead, RecipeRead, Prepared, Stepped, Followed, FollowedOn, Walk};
+ghost use Rattle.walk.specs.Output.{below, CellRead, RecipeRead, Prepared, FixedPrepared, Stepped, Followed, FollowedOn, Walk};
 
 use cell::{Cell, CellReading};
 use recipe::RecipeReading;
@@ -198,7 +198,8 @@ fn first_refusal(first: Verdict, second: Verdict) -> Verdict
 fn prepare<F: Files>(files: &F, recipes: &mut [u8], table: &mut [u32]) -> Ready
     requires recipes_len { length recipes.old ≡ 449 }
     requires table_len { length table.old ≡ 8192 }
-    ensures { Prepared recipes.new table.new result }
+    ensures prepared { Prepared recipes.new table.new result }
+    ensures fixed { FixedPrepared recipes.new table.new result }
 {
     let reading = read_cell(files);
     let first = reading.verdict;

@@ -8,7 +8,7 @@ unfolding names_line
 returns-in_default g c =
     λ written.
     let ready = c.prepare-ready in
-    walk_refused _ _ ready.result ready.ensures _ _ _ _ (c.print-names.ensures.written c.if-names.false)
+    walk_refused _ _ ready.result ready.ensures.fixed _ _ _ _ (c.print-names.ensures.written c.if-names.false)
     (c.print_refusal-line.ensures.written (not-true _ written))
 
 pub returns : goal.returns
@@ -16,5 +16,5 @@ unfolding names_line
 returns g c =
     λ written.
     let ready = c.prepare-ready in
-    walk_followed _ _ ready.result ready.ensures _ _ _ _ _ _ _ c.in-Accepted.is (c.print-names.ensures.written c.if-names.false)
+    walk_followed _ _ ready.result ready.ensures.fixed _ _ _ _ _ _ _ c.in-Accepted.is (c.print-names.ensures.written c.if-names.false)
     c.follow-last.ensures.streams (not-true _ written)
