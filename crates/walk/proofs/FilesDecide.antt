@@ -23,11 +23,11 @@ use Rattle.records.proofs.RecordsRoundTrip.{WholeRecipe, recipe_length, recipe_b
 use Rattle.chapters.specs.Joined.{Chapters}
 use Rattle.chapters.specs.Records.{chapters_from}
 use Rattle.chapters.proofs.ChapterBytes.{one_record}
-use Rattle.planner.specs.Call.{PlanCall}
+use Rattle.planner.specs.Call.{PlanCall, FixedCall}
 use Rattle.refusals.proofs.Verdicts.{refused_not}
 use Rattle.refusals.proofs.Rules.{part_refuses, part_accepts, decides}
 use Rattle.printout.specs.Text.{refusal_line, Put}
-use Rattle.walk.specs.Output.{below, CellRead, RecipeRead, Prepared}
+use Rattle.walk.specs.Output.{below, CellRead, RecipeRead, Prepared, FixedPrepared}
 
 -- a buffer of 8192 bytes holds the start of a file
 in_start : (n : ℕ) (start : List ℕ) → length start ≡ 8192 → take 8192 (take n start) ≡ take n start
@@ -43,19 +43,27 @@ recipe_start n start long is = (take n start, is ∙ ap read_recipe (sym (in_sta
 pub recipe_none : {reading : RecipeReading} → reading ≡ read_recipe [] → RecipeRead reading
 recipe_none is = ([], is)
 
--- how many bytes are handed over below the first line
-pub none_handed : {verdict : Verdict} → verdict ≡ Accepted → 0 ≡ length (below verdict [])
+-- what is handed over below the first line, and how many bytes that are
+pub none_below : {verdict : Verdict} → verdict ≡ Accepted → [] ≡ below verdict []
 unfolding below
-none_handed is = rw is
+none_below is = ap (λ (v : Verdict). below v []) (sym is)
+
+pub line_below : {verdict : Verdict} {refusal : Refusal} {line number end : ℕ} {entry exit : List ℕ}
+    → verdict ≡ Refused refusal line → number ≡ number_of refusal
+    → Put entry exit 0 (refusal_line number) end
+    → take end exit ≡ below verdict []
+unfolding below
+line_below is numbered put = put.bytes_are ∙ ap refusal_line numbered ∙ ap (λ (v : Verdict). below v []) (sym is)
+
+pub none_handed : {verdict : Verdict} → verdict ≡ Accepted → 0 ≡ length (below verdict [])
+none_handed is = ap (λ (l : List ℕ). length l) (none_below is)
 
 pub line_handed : {verdict : Verdict} {refusal : Refusal} {line number end handed : ℕ} {entry exit : List ℕ}
     → verdict ≡ Refused refusal line → number ≡ number_of refusal
     → Put entry exit 0 (refusal_line number) end
     → handed ≡ length (take end exit)
     → handed ≡ length (below verdict [])
-unfolding below
-line_handed is numbered put whole =
-    whole ∙ ap (λ (l : List ℕ). length l) (put.bytes_are ∙ ap refusal_line numbered) ∙ ap (λ (v : Verdict). length (below v [])) (sym is)
+line_handed is numbered put whole = whole ∙ ap (λ (l : List ℕ). length l) (line_below is numbered put)
 
 -- a reader's record has all of its fields, refused or not
 whole_read : (file : List ℕ) → WholeRecipe (read_recipe file).recipe
@@ -91,10 +99,10 @@ module _ (recipes table : List ℕ) (cell : CellReading) (recipe : RecipeReading
   abbrev readings : List Verdict
   readings = (read_cell (take 8192 cell_read.0)).verdict ∷ (read_recipe (take 8192 recipe_read.0)).verdict ∷ []
 
-  judged_is : first_refusal (cell.verdict ∷ recipe.verdict ∷ []) ≡ first_refusal readings
+  pub judged_is : first_refusal (cell.verdict ∷ recipe.verdict ∷ []) ≡ first_refusal readings
   judged_is = λ i. first_refusal ((cell_read.1 i).verdict ∷ (recipe_read.1 i).verdict ∷ [])
 
-  pub prepared_refused : (verdict : Verdict) {refusal : Refusal} {line : ℕ}
+  unfoldable pub prepared_refused : (verdict : Verdict) {refusal : Refusal} {line : ℕ}
       → verdict ≡ first_refusal (cell.verdict ∷ recipe.verdict ∷ []) → verdict ≡ Refused refusal line
       → Prepared recipes table (record { verdict = verdict; cell = cell.cell })
   unfolding first_refusal
@@ -113,7 +121,7 @@ module _ (recipes table : List ℕ) (cell : CellReading) (recipe : RecipeReading
         recipe_is = λ accepted. absurd (refused_not told accepted);
       }
 
-  pub prepared_planned : (verdict plan : Verdict) (entry scratch scratch' : List ℕ)
+  unfoldable pub prepared_planned : (verdict plan : Verdict) (entry scratch scratch' : List ℕ)
       → verdict ≡ first_refusal (cell.verdict ∷ recipe.verdict ∷ []) → verdict ≡ Accepted
       → length entry ≡ 8192
       → length scratch * 8 ≡ 8192
@@ -148,4 +156,42 @@ module _ (recipes table : List ℕ) (cell : CellReading) (recipe : RecipeReading
             };
         cell_is = ap (λ (x : CellReading). x.cell) cell_read.1;
         recipe_is = λ accepted. kept ∙ ap (λ (x : RecipeReading). x.recipe) recipe_read.1;
+      }
+
+  pub fixed_refused : (verdict : Verdict) {refusal : Refusal} {line : ℕ}
+      → verdict ≡ first_refusal (cell.verdict ∷ recipe.verdict ∷ []) → verdict ≡ Refused refusal line
+      → FixedPrepared recipes table (record { verdict = verdict; cell = cell.cell })
+  unfolding first_refusal prepared_refused
+  fixed_refused verdict is told =
+      record {
+        prepared = prepared_refused verdict is told;
+        fixed =
+            record {
+              fixed = λ first second. absurd (refused_not told (is ∙ judged_is ∙ (λ i. first_refusal (first i ∷ second i ∷ []))));
+            };
+      }
+
+  pub fixed_planned : (verdict plan : Verdict) (entry scratch scratch' : List ℕ)
+      → (is : verdict ≡ first_refusal (cell.verdict ∷ recipe.verdict ∷ []))
+      → (told : verdict ≡ Accepted)
+      → (long : length entry ≡ 8192)
+      → (wide : length scratch * 8 ≡ 8192)
+      → (kept : recipe_from recipes ≡ recipe.recipe)
+      → {rs : Chapters}
+      → (chapter : rs ≡ recipe.recipe ∷ [])
+      → PlanCall cell.cell rs entry scratch table scratch' plan
+      → FixedCall cell.cell rs entry scratch table
+      → FixedPrepared recipes table (record { verdict = plan; cell = cell.cell })
+  unfolding prepared_planned
+  fixed_planned verdict plan entry scratch scratch' is told long wide kept chapter call fixed =
+      record {
+        prepared = prepared_planned verdict plan entry scratch scratch' is told long wide kept chapter call;
+        fixed =
+            record {
+              fixed =
+                  λ first second.
+                  subst (λ (x : CellReading). FixedCall x.cell ((read_recipe (take 8192 recipe_read.0)).recipe ∷ []) entry scratch table) cell_read.1
+                  (subst (λ (x : RecipeReading). FixedCall cell.cell (x.recipe ∷ []) entry scratch table) recipe_read.1
+                  (subst (λ (rs : Chapters). FixedCall cell.cell rs entry scratch table) chapter fixed));
+            };
       }

@@ -1,11 +1,14 @@
 -- Reads of standard input, one after another. Assumes nothing.
-use mathlib.Core.Path.{◌≡◌, refl, sym, ap, ◌∙◌}
+use mathlib.Core.Path.{◌≡◌, refl, sym, ap, subst, ◌∙◌}
 use mathlib.Core.Bool.{Bool, true, false, cond, true≢false}
 use mathlib.Core.List.{List, [], ◌++◌}
 use Prim.Native.Nat.{ℕ, ◌+◌, ◌-◌, ◌<◌, ◌≤◌}
 use native.Mathlib.Omega.{arith}
 use lib.ListN.{length, take, length-append}
 use lib.Seq.{length-take-le}
+use Rattle.std.specs.declared.option.Option.{Option}
+use Rattle.std.specs.Io.KnownBytes.{Appends, Consumes}
+use Rattle.std.proofs.KnownBytes.{Appends-nil, Appends-trans, Consumes-nil, Consumes-trans}
 use Rattle.cell.specs.declared.Cell.{Cell}
 use Rattle.recipe.specs.declared.Recipe.{Recipe}
 use Rattle.run.specs.declared.Run.{Run}
@@ -13,7 +16,7 @@ use Rattle.run.specs.Calls.{fresh_run}
 use Rattle.printout.specs.declared.Answer.{Answer}
 use Rattle.walk.specs.declared.Step.{Step}
 use Rattle.printout.specs.Turn.{walked, printed, Answers}
-use Rattle.walk.specs.Output.{Stepped, Followed}
+use Rattle.walk.specs.Output.{Stepped, Followed, FollowedOn}
 use Rattle.printout.proofs.InputInParts.{walked_parts, printed_parts}
 
 -- a prefix has as many bytes as it was cut to
@@ -141,3 +144,49 @@ module _ (c : Cell) (r : Recipe) (table : List ℕ) where
           stops = F.stops;
           used_up = λ more. absurd (true≢false (sym more ∙ over));
         }
+
+  -- the same of streams: what the reader had left and has left, and what the writer held and holds
+  pub record FollowingOn (reads left : ℕ) (step : Step) (had has held holds : Option (List ℕ)) : Type 0 where
+    pub following : Following reads left step
+    pub read : Consumes had has following.input
+    pub lines : step.failed ≡ false → Appends held holds (printed c r table fresh_run following.input)
+    pub unfailed : step.more ≡ true → step.failed ≡ false
+
+  pub following_on_none : (had held : Option (List ℕ)) (reads : ℕ) (run : Run) → run ≡ fresh_run
+      → FollowingOn reads reads (record { got = 0; length = 0; failed = false; more = true; run = run }) had had held held
+  unfolding printed following_none
+  following_on_none had held reads run fresh =
+      record {
+        following = following_none reads run fresh;
+        read = Consumes-nil had;
+        lines = λ written. Appends-nil held;
+        unfailed = λ on. refl;
+      }
+
+  module _
+      (reads left : ℕ) (some : 0 < left) (before after : Step) (bytes text : List ℕ) (had has has' held holds holds' : Option (List ℕ))
+      (F : FollowingOn reads left before had has held holds) (on : before.more ≡ true)
+      (S : Stepped c r table before.run bytes text after)
+      (read : Consumes has has' (take after.got bytes))
+      (written : after.failed ≡ false → Appends holds holds' (take after.length text))
+    where
+      pub following_on_next : FollowingOn reads (left - 1) after had has' held holds'
+      unfolding following_next
+      following_on_next =
+          record {
+            following = following_next reads left some before after bytes text F.following on S;
+            read = Consumes-trans had has has' F.following.input (take after.got bytes) F.read read;
+            lines = λ kept.
+                subst (Appends held holds') (sym (handed_next reads left some before after bytes text F.following on S))
+                (Appends-trans held holds holds' _ _ (F.lines (F.unfailed on)) (written kept));
+            unfailed = kept reads left some before after bytes text F.following on S;
+          }
+
+  module _ (reads left : ℕ) (step : Step) (had has held holds : Option (List ℕ)) (F : FollowingOn reads left step had has held holds) where
+    pub followed_on_all : left ≡ 0 → FollowedOn c r table reads step had has held holds
+    unfolding followed_all
+    followed_on_all none = record { followed = followed_all reads left step F.following none; read = F.read; lines = F.lines }
+
+    pub followed_on_over : step.more ≡ false → FollowedOn c r table reads step had has held holds
+    unfolding followed_over
+    followed_on_over over = record { followed = followed_over reads left step F.following over; read = F.read; lines = F.lines }

@@ -28,12 +28,12 @@ use Rattle.run.specs.Calls.{point_of, entry_at, entry_rules, report_rules, rule1
 use Rattle.simulation.specs.Simulation.{PositionIn}
 use Rattle.simulation.proofs.JoinedMachine.{joined_starts, open_at}
 use Rattle.simulation.proofs.PlannedEntries.{same_entry}
-use Rattle.planner.specs.Call.{check_plan}
+use Rattle.planner.specs.Call.{check_plan, FixedCall}
 use Rattle.planner.proofs.PlanAnswers.{plan_checked, refused_kept}
 use Rattle.planner.proofs.Demands.{same_verdict}
 use Rattle.printout.specs.Text.{refusal_line}
 use Rattle.printout.specs.Turn.{reported, told, printed}
-use Rattle.walk.specs.Output.{names_line, below, PlanMade, Decided, Output}
+use Rattle.walk.specs.Output.{names_line, below, PlanMade, Decided, FixedDecided, Output}
 use Rattle.walk.proofs.SamePrintout.{Along, printed_same, call_length}
 
 -- a run that is at a position
@@ -80,7 +80,8 @@ module _ (c : Cell) (r : Recipe) (K : AllChecked c (r ∷ []) (sizes_in c (r ∷
   along run (byte ∷ bytes) at = (same run at, along (told c r table' run byte).run bytes (told_placed c r K table' run byte at))
 
 -- two plan calls on the records of the same two files
-module _ (c : Cell) (r : Recipe) (table table' : List ℕ) (v v' : Verdict) (made : PlanMade c r table v) (other : PlanMade c r table' v') where
+module _ (c : Cell) (r : Recipe) (table table' : List ℕ) (v v' : Verdict) (made : PlanMade c r table v) (other : PlanMade c r table' v')
+    (fixed : FixedCall c (r ∷ []) made.table made.scratch table) (other_fixed : FixedCall c (r ∷ []) other.table other.scratch table') where
   abbrev rs : Chapters
   rs = r ∷ []
 
@@ -97,7 +98,7 @@ module _ (c : Cell) (r : Recipe) (table table' : List ℕ) (v v' : Verdict) (mad
       decide : (w : Verdict) → check_plan c rs (length made.table) (length made.scratch) ≡ w → v ≡ v'
       decide Accepted is =
           same_verdict c rs made.table made.scratch table made.scratch' v made.call is
-          other.table other.scratch table' other.scratch' v' other.call (sym same_check ∙ is)
+          other.table other.scratch table' other.scratch' v' other.call (sym same_check ∙ is) fixed other_fixed
       decide (Refused refusal line) is =
           (refused_kept c rs made.table made.scratch table made.scratch' made.call is).0
           ∙ sym (refused_kept c rs other.table other.scratch table' other.scratch' other.call (sym same_check ∙ is)).0
@@ -113,7 +114,7 @@ module _ (c : Cell) (r : Recipe) (table table' : List ℕ) (v v' : Verdict) (mad
         (along c r K table table'
         (λ run at.
         same_entry c rs (sizes_in c rs) K made.table table other.table table' made.call.refused other.call.refused
-        (made.call.planned passes) (other.call.planned (sym same_check ∙ passes)) (point_of run) run.configuration at)
+        (made.call.planned passes) (other.call.planned (sym same_check ∙ passes)) (fixed.fixed passes) (other_fixed.fixed (sym same_check ∙ passes)) (point_of run) run.configuration at)
         fresh_run input (joined_starts c rs (sizes_in c rs) K))
 
   -- below the first line both print the same
@@ -151,10 +152,12 @@ refused_below v lines is = ap (λ (w : Verdict). below w lines) is
 -- "Planner output is compared entry for entry with this rule, and `walk` with it.": two outputs for the same files and the same input
 pub one_output :
     (cell_file recipe_file input text text' : List ℕ)
-    → Output cell_file recipe_file input text
-    → Output cell_file recipe_file input text'
+    → (first : Output cell_file recipe_file input text)
+    → (second : Output cell_file recipe_file input text')
+    → FixedDecided cell_file recipe_file first.table first.verdict first.decided
+    → FixedDecided cell_file recipe_file second.table second.verdict second.decided
     → text ≡ text'
-one_output cell_file recipe_file input text text' first second =
+one_output cell_file recipe_file input text text' first second first_fixed second_fixed =
     first.text_is
     ∙ ap (λ (l : List ℕ). names_line ++ l) (decide (read_cell (take 8192 cell_file)).verdict refl (read_recipe (take 8192 recipe_file)).verdict refl)
     ∙ sym second.text_is
@@ -180,5 +183,5 @@ one_output cell_file recipe_file input text text' first second =
     decide Accepted is Accepted told =
         ap (λ (w : Verdict). below w (printed c r first.table fresh_run input)) (both_read cell_file recipe_file _ _ first.decided is told)
         ∙ same_below c r first.table second.table first.decided.plan second.decided.plan (first.decided.planned is told)
-        (second.decided.planned is told) input
+        (second.decided.planned is told) (first_fixed.fixed is told) (second_fixed.fixed is told) input
         ∙ ap (λ (w : Verdict). below w (printed c r second.table fresh_run input)) (sym (both_read cell_file recipe_file _ _ second.decided is told))

@@ -1,6 +1,8 @@
 -- "`walk` reads the first 8192 bytes of `cell.csv` and then, unless that is refused, of `recipe.csv` .. and digits from
 -- standard input": what it reads, decides and prints. Assumes nothing.
 use Rattle.std.specs.Prelude.{◌≡◌, true, false, List, [], ◌∷◌, ◌++◌, ℕ, ◌*◌, ◌≤◌, length, take}
+use Rattle.std.specs.declared.option.Option.{Option}
+use Rattle.std.specs.Io.KnownBytes.{Appends, Consumes}
 use Rattle.refusals.specs.Refusal.{number_of}
 use Rattle.refusals.specs.declared.Verdict.{Verdict}
 use Rattle.refusals.specs.declared.Verdict.TheVariants.{Accepted, Refused}
@@ -14,7 +16,7 @@ use Rattle.recipe.specs.Reader.{read_recipe}
 use Rattle.records.specs.Encoding.{recipe_from}
 use Rattle.run.specs.declared.Run.{Run}
 use Rattle.run.specs.Calls.{fresh_run}
-use Rattle.planner.specs.Call.{PlanCall}
+use Rattle.planner.specs.Call.{PlanCall, FixedCall}
 use Rattle.walk.specs.declared.Ready.{Ready}
 use Rattle.walk.specs.declared.Step.{Step}
 use Rattle.printout.specs.Text.{refusal_line}
@@ -59,6 +61,14 @@ pub record Decided (cell_file recipe_file table : List ℕ) (verdict : Verdict) 
       → (read_recipe (take 8192 recipe_file)).verdict ≡ Accepted
       → PlanMade (read_cell (take 8192 cell_file)).cell (read_recipe (take 8192 recipe_file)).recipe table plan
 
+-- "Each entry other than 0 at a do or test is now fixed.": of the table that the plan call leaves, where the two files lead to one
+pub record FixedDecided (cell_file recipe_file table : List ℕ) (verdict : Verdict) (decided : Decided cell_file recipe_file table verdict) : Type 0 where
+  pub fixed :
+      (cell_passes : (read_cell (take 8192 cell_file)).verdict ≡ Accepted)
+      → (recipe_passes : (read_recipe (take 8192 recipe_file)).verdict ≡ Accepted)
+      → FixedCall (read_cell (take 8192 cell_file)).cell ((read_recipe (take 8192 recipe_file)).recipe ∷ [])
+      (decided.planned cell_passes recipe_passes).table (decided.planned cell_passes recipe_passes).scratch table
+
 -- what the program has when it begins to follow: the verdict, and the records and the table of two files; the recipe's record as bytes
 pub record Prepared (recipes table : List ℕ) (ready : Ready) : Type 0 where
   pub cell_file : List ℕ
@@ -66,6 +76,11 @@ pub record Prepared (recipes table : List ℕ) (ready : Ready) : Type 0 where
   pub decided : Decided cell_file recipe_file table ready.verdict
   pub cell_is : ready.cell ≡ (read_cell (take 8192 cell_file)).cell
   pub recipe_is : ready.verdict ≡ Accepted → recipe_from recipes ≡ (read_recipe (take 8192 recipe_file)).recipe
+
+-- and of that table
+pub record FixedPrepared (recipes table : List ℕ) (ready : Ready) : Type 0 where
+  pub prepared : Prepared recipes table ready
+  pub fixed : FixedDecided prepared.cell_file prepared.recipe_file table ready.verdict prepared.decided
 
 -- all that is printed for the bytes of two files and of standard input
 pub record Output (cell_file recipe_file input text : List ℕ) : Type 0 where
@@ -96,3 +111,21 @@ pub record Followed (c : Cell) (r : Recipe) (table : List ℕ) (reads : ℕ) (st
   pub goes_on : step.more ≡ true → (walked c r table fresh_run input).more ≡ true
   pub stops : step.more ≡ false → (step.got ≡ 0 → ⊥) → step.failed ≡ false → (walked c r table fresh_run input).more ≡ false
   pub used_up : step.more ≡ true → reads ≤ length input
+
+-- and on streams whose bytes are known, the reader's that are left and the writer's that it holds, before and after: those bytes were read,
+-- and unless a text could not be written, their lines were printed and nothing else
+pub record FollowedOn (c : Cell) (r : Recipe) (table : List ℕ) (reads : ℕ) (step : Step) (left left' held held' : Option (List ℕ)) : Type 0 where
+  pub followed : Followed c r table reads step
+  pub read : Consumes left left' followed.input
+  pub lines : step.failed ≡ false → Appends held held' (printed c r table fresh_run followed.input)
+
+-- a whole walk of which all was written: what was printed is the output for some two files and the bytes that were read
+pub record Walk (left left' held held' : Option (List ℕ)) : Type 0 where
+  pub cell_file : List ℕ
+  pub recipe_file : List ℕ
+  pub input : List ℕ
+  pub text : List ℕ
+  pub output : Output cell_file recipe_file input text
+  pub fixed : FixedDecided cell_file recipe_file output.table output.verdict output.decided
+  pub read : Consumes left left' input
+  pub written : Appends held held' text

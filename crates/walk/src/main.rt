@@ -2,17 +2,49 @@
 // by the outcomes that standard input gives.
 #![tactic(auto)]
 
-ghost use Rattle.std.specs.Prelude.{◌≡◌, [], ◌∷◌, ◌*◌, ◌≤◌, length};
+ghost use Rattle.std.specs.Prelude.{◌≡◌, false, [], ◌∷◌, ◌*◌, ◌≤◌, length, take, IsTrue};
+ghost use Rattle.std.specs.Io.KnownBytes.{Appends, Consumes};
 ghost use Rattle.refusals.specs.Verdict.{first_refusal};
 ghost use Rattle.records.specs.Encoding.{recipe_from};
-ghost use Rattle.io.specs.Counts.{IsPrefixLen};
-ghost use Rattle.walk.specs.Output.{below, CellRead, RecipeRead, Prepared, Stepped, Followed};
+ghost use Rattle.walk.specs.Counts.{IsPrefixLen};
+ghost use Rattle.walk.specs.Output.{below, CellRead, RecipeRead, Prepared, FixedPrepared, Stepped, Followed, FollowedOn, Walk};
 
 use cell::{Cell, CellReading};
-use libc::{STDIN_FILENO, STDOUT_FILENO};
 use recipe::RecipeReading;
 use refusals::Verdict;
 use run::Run;
+use std::io::{Read, Write};
+use std::rt::Files;
+use std::{fmt, fs, io};
+
+// Where the lines are printed, and where it is said why one could not be.
+#[derive(Drop)]
+pub struct Printer<O, E> {
+    pub output: O,
+    pub errors: E,
+}
+
+// The words of an error, without the number that std's own text puts behind those of the system.
+#[derive(Drop)]
+struct Words<'a, E> {
+    errors: &'a E,
+    are_over: bool,
+}
+
+impl<E: Eprint> fmt::Write for Words<'_, E> {
+    fn write_str(&mut self, piece: &str) -> fmt::Result {
+        if piece == " (os error " {
+            self.are_over = true;
+        }
+        if self.are_over {
+            return Ok(());
+        }
+        match self.errors.eprint(piece) {
+            Ok(()) => Ok(()),
+            Err(_) => Err(fmt::Error),
+        }
+    }
+}
 
 // How many bytes were handed to standard output, and whether writing them failed.
 #[derive(Clone, Copy)]
@@ -40,23 +72,44 @@ pub struct Step {
     pub run: Run,
 }
 
+// Says why standard output took no more. A failure to say so is let go: there is nowhere left to tell.
+fn say_why<E: Eprint>(errors: &E, error: io::Error) {
+    let mut words = Words {
+        errors,
+        are_over: false,
+    };
+    let _ = errors.eprint("standard output: ");
+    let _ = fmt::Write::write_fmt(&mut words, error);
+    let _ = errors.eprint("\n");
+}
+
 // Hands a text to standard output; where writing fails it says why.
-fn print(text: &[u8]) -> Printed
-    ensures { result.length ≡ length text.now }
+fn print<O: Write, E: Eprint>(printer: &mut Printer<O, E>, text: &[u8]) -> Printed
+    ensures length { result.length ≡ length text.now }
+    ensures written { result.failed ≡ false
+        → Appends (O.contents printer.old.output) (O.contents printer.new.output) text.now }
 {
-    let is_written = io::write_all(STDOUT_FILENO, text);
-    if !is_written {
-        os::fail(b"standard output");
-    }
-    Printed {
-        length: text.len(),
-        failed: !is_written,
+    let length = text.len();
+    match printer.output.write_all(text) {
+        Ok(()) => Printed {
+            length,
+            failed: false,
+        },
+        Err(error) => {
+            say_why(&printer.errors, error);
+            Printed {
+                length,
+                failed: true,
+            }
+        }
     }
 }
 
 // Prints the line of a verdict that refuses.
-fn print_refusal(verdict: Verdict) -> Printed
-    ensures { result.length ≡ length (below verdict []) }
+fn print_refusal<O: Write, E: Eprint>(printer: &mut Printer<O, E>, verdict: Verdict) -> Printed
+    ensures length { result.length ≡ length (below verdict []) }
+    ensures written { result.failed ≡ false
+        → Appends (O.contents printer.old.output) (O.contents printer.new.output) (below verdict []) }
 {
     let Verdict::Refused(refusal, _) = verdict else {
         return Printed {
@@ -66,42 +119,67 @@ fn print_refusal(verdict: Verdict) -> Printed
     };
     let mut line = [0u8; 64];
     let length = printout::text::put_refusal(&mut line, 0, refusals::number(refusal));
-    print(&line[..length])
+    print(printer, &line[..length])
+}
+
+// One read; one that fails gives no bytes, as one at the end.
+fn read_some<I: Read>(input: &mut I, bytes: &mut [u8]) -> usize
+    ensures inside { IsPrefixLen result bytes.new }
+    ensures read { Consumes (I.remaining input.old) (I.remaining input.new) (take result bytes.new) }
+{
+    match input.read(bytes) {
+        Ok(got) => got,
+        Err(_) => 0,
+    }
+}
+
+// Reads until the buffer is full or a read gives nothing, and answers how many bytes stand at its
+// start.
+fn read_full<I: Read>(input: &mut I, start: &mut [u8]) -> usize
+    ensures inside { IsPrefixLen result start.new }
+    ensures read { Consumes (I.remaining input.old) (I.remaining input.new) (take result start.new) }
+{
+    let mut done = 0;
+    while done < start.len() {
+        let got = read_some(input, &mut start[done..]);
+        if got == 0 {
+            break;
+        }
+        done += got;
+    }
+    done
 }
 
 // Reads a file's start as far as the buffer has room, and answers how many bytes that are; 0 for a
 // file that cannot be opened.
-fn read_start(path: &[u8], start: &mut [u8]) -> usize
+fn read_start<F: Files>(files: &F, path: &str, start: &mut [u8]) -> usize
     ensures { IsPrefixLen result start.new }
 {
-    let file = os::open_read(path);
-    if file < 0 {
-        return 0;
+    match fs::open(files, path) {
+        Ok(mut file) => read_full(&mut file, start),
+        Err(_) => 0,
     }
-    let length = io::read_full(file, start);
-    libc::close(file);
-    length
 }
 
 // The cell of the working directory.
-fn read_cell() -> CellReading
+fn read_cell<F: Files>(files: &F) -> CellReading
     ensures { CellRead result }
 {
     let mut start = [0u8; 8192];
-    let length = read_start(b"cell.csv", &mut start);
+    let length = read_start(files, "cell.csv", &mut start);
     cell::read_cell(&start[..length])
 }
 
 // The recipe of the working directory, which is not read if the cell is refused: then it counts as
 // empty.
-fn read_recipe(cell: Verdict) -> RecipeReading
+fn read_recipe<F: Files>(files: &F, cell: Verdict) -> RecipeReading
     ensures { RecipeRead result }
 {
     let Verdict::Accepted = cell else {
         return recipe::read_recipe(b"");
     };
     let mut start = [0u8; 8192];
-    let length = read_start(b"recipe.csv", &mut start);
+    let length = read_start(files, "recipe.csv", &mut start);
     recipe::read_recipe(&start[..length])
 }
 
@@ -117,15 +195,16 @@ fn first_refusal(first: Verdict, second: Verdict) -> Verdict
 
 // Reads the cell and the recipe, of which it keeps the record's bytes, and plans with 8192 places: a scratch of 1024 bytes has as
 // many.
-fn prepare(recipes: &mut [u8], table: &mut [u32]) -> Ready
+fn prepare<F: Files>(files: &F, recipes: &mut [u8], table: &mut [u32]) -> Ready
     requires recipes_len { length recipes.old ≡ 449 }
     requires table_len { length table.old ≡ 8192 }
-    ensures { Prepared recipes.new table.new result }
+    ensures prepared { Prepared recipes.new table.new result }
+    ensures fixed { FixedPrepared recipes.new table.new result }
 {
-    let reading = read_cell();
+    let reading = read_cell(files);
     let first = reading.verdict;
     let cell = reading.cell;
-    let reading = read_recipe(first);
+    let reading = read_recipe(files, first);
     let second = reading.verdict;
     let recipe = reading.recipe;
     let verdict = first_refusal(first, second);
@@ -140,7 +219,9 @@ fn prepare(recipes: &mut [u8], table: &mut [u32]) -> Ready
 
 // Takes what one read gives and prints its answer, before more is waited for. A text that cannot be
 // written ends the walk, as does the end of the input.
-fn take_some(
+fn take_some<I: Read, O: Write, E: Eprint>(
+    input: &mut I,
+    printer: &mut Printer<O, E>,
     cell: Cell,
     recipes: &[u8],
     table: &[u32],
@@ -150,10 +231,12 @@ fn take_some(
 ) -> Step
     requires recipes_len { length recipes.now ≡ 449 }
     requires bytes_in_bounds { 64 * length bytes.old ≤ length text.old }
-    ensures { Stepped cell (recipe_from recipes.now) table.now run bytes.new text.new result }
+    ensures stepped { Stepped cell (recipe_from recipes.now) table.now run bytes.new text.new result }
+    ensures read { Consumes (I.remaining input.old) (I.remaining input.new) (take result.got bytes.new) }
+    ensures written { result.failed ≡ false
+        → Appends (O.contents printer.old.output) (O.contents printer.new.output) (take result.length text.new) }
 {
-    let read = libc::read(STDIN_FILENO, bytes);
-    let got = io::count(read, bytes);
+    let got = read_some(input, bytes);
     if got == 0 {
         return Step {
             got,
@@ -166,7 +249,7 @@ fn take_some(
     let answer = printout::turn::answers(cell, recipes, table, run, &bytes[..got], text);
     let length = answer.length;
     let next = answer.run;
-    let printed = print(&text[..length]);
+    let printed = print(printer, &text[..length]);
     if printed.failed {
         return Step {
             got,
@@ -187,12 +270,22 @@ fn take_some(
 
 // Follows a table from a fresh run. A proved loop has to end, and nothing says that standard input
 // does; so the reads are counted down.
-fn follow(cell: Cell, recipes: &[u8], table: &[u32], reads: u64) -> Step
+fn follow<I: Read, O: Write, E: Eprint>(
+    input: &mut I,
+    printer: &mut Printer<O, E>,
+    cell: Cell,
+    recipes: &[u8],
+    table: &[u32],
+    reads: u64,
+) -> Step
     requires { length recipes.now ≡ 449 }
-    ensures { Followed cell (recipe_from recipes.now) table.now reads result }
+    ensures followed { Followed cell (recipe_from recipes.now) table.now reads result }
+    ensures streams { FollowedOn cell (recipe_from recipes.now) table.now reads result
+        (I.remaining input.old) (I.remaining input.new)
+        (O.contents printer.old.output) (O.contents printer.new.output) }
 {
     let mut bytes = [0u8; 1024];
-    let mut text = io::large_buffer();
+    let mut text = [0u8; 65536];
     let mut step = Step {
         got: 0,
         length: 0,
@@ -202,25 +295,45 @@ fn follow(cell: Cell, recipes: &[u8], table: &[u32], reads: u64) -> Step
     };
     let mut left = reads;
     while left > 0 && step.more {
-        step = take_some(cell, recipes, table, step.run, &mut bytes, &mut text);
+        step = take_some(
+            input, printer, cell, recipes, table, step.run, &mut bytes, &mut text,
+        );
         left -= 1;
     }
     step
 }
 
-fn main() {
-    let names = print(b"position,entry,next\n");
+// Prints the names, and below them the refusal or the lines of the moves. Answers whether all of it
+// was written.
+fn plan_and_follow<F: Files, I: Read, O: Write, E: Eprint>(
+    files: &F,
+    input: &mut I,
+    printer: &mut Printer<O, E>,
+) -> bool
+    ensures { IsTrue result → Walk (I.remaining input.old) (I.remaining input.new)
+        (O.contents printer.old.output) (O.contents printer.new.output) }
+{
+    let names = print(printer, b"position,entry,next\n");
     if names.failed {
-        return;
+        return false;
     }
     let mut recipes = [0u8; 449];
     let mut table = [0u32; 8192];
-    let ready = prepare(&mut recipes, &mut table);
+    let ready = prepare(files, &mut recipes, &mut table);
     let verdict = ready.verdict;
     let Verdict::Accepted = verdict else {
-        print_refusal(verdict);
-        return;
+        let line = print_refusal(printer, verdict);
+        return !line.failed;
     };
     // No walk uses up so many reads.
-    follow(ready.cell, &recipes, &table, u64::MAX);
+    let last = follow(input, printer, ready.cell, &recipes, &table, u64::MAX);
+    !last.failed
+}
+
+fn main(rt: HostRuntime) {
+    let mut printer = Printer {
+        output: rt.stdout(),
+        errors: rt.stderr(),
+    };
+    plan_and_follow(&rt, &mut rt.stdin(), &mut printer);
 }
