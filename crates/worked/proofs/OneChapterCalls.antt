@@ -24,7 +24,7 @@ use Rattle.positions.specs.Rules as alone
 use Rattle.steps.specs.Effect.{makes, leads_to}
 use Rattle.chapters.specs.Joined.{Point, point_in, chapter_at}
 use Rattle.chapters.specs.Sizes.{sizes_in, begins, position_in, entry_in}
-use Rattle.chapters.specs.Rules.{record_rules, rule13, rule14, is_position_in, rule16, check_sizes}
+use Rattle.chapters.specs.Rules.{record_rules, rule13, is_position_in, rule16, check_sizes}
 use Rattle.chapters.proofs.OneChapter.{one_parts, one_sizes, one_tried, one_rule13, one_rule14, one_lands}
 use Rattle.run.specs.declared.Run.{Run}
 use Rattle.run.specs.Calls.{point_of, run_at, run_rules, table_rules, place_rules, entry_rules, rule17, rule18, rule19, move_rules, report_rules}

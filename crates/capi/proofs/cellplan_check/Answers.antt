@@ -3,7 +3,6 @@ use Rattle.refusals.specs.Verdict.{refusal_in}
 use Rattle.cell.specs.declared.Cell.{Cell}
 use Rattle.chapters.specs.Records.{chapters_from}
 use Rattle.chapters.specs.Rules.{check_sizes}
-use borrow.Author.Rules.{rules}
 use Rattle.capi.proofs.cellplan_check.Goals as goal
 
 pub returns : goal.returns

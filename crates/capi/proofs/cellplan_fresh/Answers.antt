@@ -4,7 +4,6 @@ use lib.ListN.{drop}
 use Rattle.run.specs.declared.Run.{Run}
 use Rattle.capi.specs.Encoding.{code_of, run_bytes}
 use Rattle.capi.proofs.Answers.{too_short, answered}
-use borrow.Author.Rules.{rules}
 use Rattle.capi.proofs.cellplan_fresh.Goals as goal
 
 pub returns-then-buffer-lt16 : goal.returns-then-buffer-lt16

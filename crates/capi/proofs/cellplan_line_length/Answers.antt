@@ -1,6 +1,5 @@
 use mathlib.Core.Path.{ap}
 use lib.ListN.{length}
-use borrow.Author.Rules.{rules}
 use Rattle.capi.proofs.cellplan_line_length.Goals as goal
 
 pub returns : goal.returns

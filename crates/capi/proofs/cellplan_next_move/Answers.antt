@@ -3,7 +3,6 @@ use Prim.Native.Nat.{ℕ, ◌+◌, ◌*◌}
 use Rattle.chapters.specs.Records.{chapters_from}
 use Rattle.run.specs.Calls.{next_move}
 use Rattle.capi.specs.Answer.{move_code}
-use borrow.Author.Rules.{rules}
 use Rattle.capi.proofs.cellplan_next_move.Goals as goal
 
 pub returns : goal.returns

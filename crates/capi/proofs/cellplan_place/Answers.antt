@@ -3,7 +3,6 @@ use Prim.Native.Nat.{ℕ, ◌+◌, ◌*◌}
 use Rattle.chapters.specs.Records.{chapters_from}
 use Rattle.run.specs.Calls.{part_place}
 use Rattle.capi.specs.Answer.{place_code}
-use borrow.Author.Rules.{rules}
 use Rattle.capi.proofs.cellplan_place.Goals as goal
 
 pub returns : goal.returns

@@ -7,7 +7,6 @@ use Rattle.recipe.proofs.AcceptedRecord.{read_few}
 use Rattle.records.specs.Encoding.{recipe_bytes}
 use Rattle.capi.specs.Encoding.{code_of}
 use Rattle.capi.proofs.Answers.{too_short, answered}
-use borrow.Author.Rules.{rules}
 use Rattle.capi.proofs.cellplan_read_recipe.Goals as goal
 
 pub returns-then-buffer-lt449 : goal.returns-then-buffer-lt449

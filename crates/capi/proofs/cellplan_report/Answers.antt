@@ -2,7 +2,6 @@ use mathlib.Core.Path.{◌∙◌}
 use Rattle.chapters.specs.Records.{chapters_from}
 use Rattle.run.specs.Calls.{report_of}
 use Rattle.capi.proofs.Answers.{report_short, report_put}
-use borrow.Author.Rules.{rules}
 use Rattle.capi.proofs.cellplan_report.Goals as goal
 
 pub returns-then-buffer-lt16 : goal.returns-then-buffer-lt16

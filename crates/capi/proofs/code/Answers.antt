@@ -1,7 +1,6 @@
 use mathlib.Core.Path.{sym, ap, ◌∙◌}
 use Prim.Native.Nat.{◌+◌, ◌*◌, ◌%◌}
 use Rattle.capi.specs.Encoding.{code_of}
-use borrow.Author.Rules.{rules}
 use Rattle.capi.proofs.code.Goals as goal
 
 pub returns-in-Accepted : goal.returns-in-Accepted

@@ -1,6 +1,5 @@
 use mathlib.Core.Path.{sym, ap, ◌∙◌}
 use Rattle.refusals.specs.Verdict.{refusal_in}
-use borrow.Author.Rules.{rules}
 use Rattle.capi.proofs.refusal_number.Goals as goal
 
 pub returns-in-Accepted : goal.returns-in-Accepted

@@ -1,6 +1,6 @@
 use lib.ListN.{length}
 use mathlib.Core.Path.{◌≡◌, refl, sym, ◌∙◌}
-use Prim.Native.Nat.{ℕ, ◌<◌}
+use Prim.Native.Nat.{◌<◌}
 use native.Mathlib.Omega.{arith}
 use Rattle.cell.proofs.LongerCell.{Columns}
 use Rattle.positions.proofs.AcceptedRecords.{both_ok}
@@ -10,7 +10,6 @@ use Rattle.marks.proofs.MarkSets.{same_room}
 use Rattle.planner.proofs.OnePlan.{one_refused, one_tried, one_passed, held_realisable, realisable_held}
 use Rattle.install.proofs.InstallAnswers.{plan_refused, full_refused, free_accepted, install_refused, install_none, install_listed}
 use borrow.Author.Rules.{rules}
-use borrow.Author.Rules.{length_unmapped}
 use Rattle.install.proofs.install.Goals as goal
 
 pub returns-in_default : goal.returns-in_default

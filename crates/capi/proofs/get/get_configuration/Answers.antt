@@ -2,7 +2,6 @@ use lib.ListN.{length}
 use borrow.Author.Tests.{le-ltb}
 use Rattle.refusals.specs.Search.{tabulate}
 use Rattle.capi.specs.Encoding.{run_from}
-use borrow.Author.Rules.{rules}
 use Rattle.capi.proofs.get.get_configuration.Goals as goal
 
 pub returns : goal.returns

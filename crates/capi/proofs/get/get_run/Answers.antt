@@ -2,7 +2,6 @@ use lib.ListN.{length}
 use borrow.Author.Tests.{lt-ltb, le-ltb}
 use Rattle.positions.specs.Position.{start}
 use Rattle.capi.specs.Encoding.{run_from}
-use borrow.Author.Rules.{rules}
 use Rattle.capi.proofs.get.get_run.Goals as goal
 
 pub returns-then-bytes-lt16 : goal.returns-then-bytes-lt16

@@ -1,11 +1,8 @@
 use mathlib.Core.Path.{◌≡◌, refl, sym, ◌∙◌}
-use mathlib.Core.Bool.{false}
-use Prim.Native.Nat.{◌≤◌, ◌-◌}
 use native.Mathlib.Omega.{arith}
-use lib.ListN.{get_or}
 use Rattle.refusals.specs.Search.{any_below}
 use Rattle.refusals.proofs.Scan.{any_more, any_hit}
-use Rattle.install.specs.Candidates.{is_operation, is_there, is_in_cell}
+use Rattle.install.specs.Candidates.{is_there, is_in_cell}
 use Rattle.install.proofs.candidates.is_in_cell.Goals as goal
 
 pub loop-n-init : goal.loop-n-init

@@ -1,5 +1,4 @@
 use mathlib.Core.Path.{refl}
-use borrow.Author.Rules.{rules}
 use Rattle.install.specs.Search.{line_at}
 use Rattle.install.proofs.candidates.line_at.Goals as goal
 

@@ -1,9 +1,5 @@
 use mathlib.Core.Path.{◌≡◌}
-use mathlib.Core.Bool.{false}
-use Prim.Native.Nat.{ℕ, ◌-◌, ◌<◌, ◌≤◌}
 use native.Mathlib.Omega.{arith}
-use Rattle.recipe.specs.declared.Recipe.{Recipe}
-use Rattle.install.specs.Search.{is_tried, Question}
 use Rattle.install.proofs.NextCandidate.{next_found, next_past, next_none}
 use Rattle.install.proofs.candidates.next_candidate.Goals as goal
 
@@ -12,9 +8,9 @@ loop-n-init c = (omega arith, c.requires.from_le_end, λ r Q m least most. absur
 
 pub look-next-requires : goal.look-next-requires
 look-next-requires c = record {
-      count_bound = c.requires.count_bound;
-      n_bound = omega (arith, c.requires.end_bound);
-    }
+  count_bound = c.requires.count_bound;
+  n_bound = omega (arith, c.requires.end_bound);
+}
 
 pub returns-then-next-n : goal.returns-then-next-n
 returns-then-next-n c =

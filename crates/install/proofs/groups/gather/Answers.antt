@@ -1,10 +1,9 @@
 use mathlib.Core.Path.{◌≡◌, ap, subst, ◌∙◌}
-use Prim.Native.Nat.{ℕ, suc, ◌+◌, ◌-◌, ◌<◌, ◌≤◌}
+use Prim.Native.Nat.{ℕ, suc, ◌<◌, ◌≤◌}
 use native.Mathlib.Omega.{arith}
 use Rattle.cell.specs.Longer.{with_line}
 use Rattle.cell.specs.declared.Cell.{Cell}
-use Rattle.recipe.specs.declared.Recipe.{Recipe}
-use Rattle.install.specs.Search.{Question, Gathered}
+use Rattle.install.specs.Search.{Gathered}
 use Rattle.install.proofs.GatheredLines.{gathered_none, gathered_more, gathered_end}
 use Rattle.install.proofs.groups.gather.Goals as goal
 
@@ -21,11 +20,11 @@ loop-added-init c = (
 
 pub next_candidate-candidate-requires : goal.next_candidate-candidate-requires
 next_candidate-candidate-requires c = record {
-      count_bound = omega (arith, c.requires.size_bound);
-      from_le_end = c.loop-added.invariant.3;
-      end_value = c.requires.end_value;
-      end_bound = (c.requires.end_bound);
-    }
+  count_bound = omega (arith, c.requires.size_bound);
+  from_le_end = c.loop-added.invariant.3;
+  end_value = c.requires.end_value;
+  end_bound = (c.requires.end_bound);
+}
 
 pub returns-then-candidate-end : goal.returns-then-candidate-end
 returns-then-candidate-end c =

@@ -1,15 +1,11 @@
-use mathlib.Core.Path.{◌≡◌, ap, subst, ◌∙◌}
-use Prim.Native.Nat.{ℕ, suc, ◌+◌, ◌-◌, ◌<◌, ◌≤◌}
-use native.Mathlib.Omega.{arith}
-use Rattle.cell.specs.Longer.{with_line}
-use Rattle.cell.specs.declared.Cell.{Cell}
+use mathlib.Core.Path.{◌≡◌}
+use Prim.Native.Nat.{◌+◌, ◌-◌, ◌<◌, ◌≤◌}
 use Rattle.recipe.specs.declared.Recipe.{Recipe}
 use Rattle.install.specs.Search.{Question, Gathered}
-use Rattle.install.proofs.GatheredLines.{gathered_none, gathered_more, gathered_end}
 use Rattle.install.proofs.groups.gather.Given as goal
 
 abbrev pub invariant-loop-added : goal.invariant-loop-added
-invariant-loop-added l =     (l.longer.count ≡ l.cell.count + l.added)
+invariant-loop-added l = (l.longer.count ≡ l.cell.count + l.added)
     × (l.added ≤ l.size)
     × (l.from ≤ l.next)
     × (l.next ≤ l.end)

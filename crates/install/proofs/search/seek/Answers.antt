@@ -1,9 +1,6 @@
-use mathlib.Core.Path.{◌≡◌, refl, ◌∙◌}
-use Prim.Native.Nat.{◌+◌, ◌*◌, ◌-◌}
+use mathlib.Core.Path.{refl, ◌∙◌}
 use native.Mathlib.Omega.{arith}
-use lib.ListN.{length}
 use Rattle.marks.proofs.MarkSets.{same_room}
-use Rattle.install.specs.Search.{SoFar, Standing}
 use Rattle.install.proofs.ListedSoFar.{so_far_none, so_far_at}
 use Rattle.install.proofs.TriedGroups.{numbers_most, standing_first}
 use Rattle.install.proofs.search.seek.Goals as goal

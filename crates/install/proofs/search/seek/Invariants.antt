@@ -1,15 +1,11 @@
-use mathlib.Core.Path.{◌≡◌, refl, ◌∙◌}
+use mathlib.Core.Path.{◌≡◌}
 use Prim.Native.Nat.{◌+◌, ◌*◌, ◌-◌}
-use native.Mathlib.Omega.{arith}
 use lib.ListN.{length}
-use Rattle.marks.proofs.MarkSets.{same_room}
 use Rattle.install.specs.Search.{SoFar, Standing}
-use Rattle.install.proofs.ListedSoFar.{so_far_none, so_far_at}
-use Rattle.install.proofs.TriedGroups.{numbers_most, standing_first}
 use Rattle.install.proofs.search.seek.Given as goal
 
 abbrev pub invariant-loop-at : goal.invariant-loop-at
-invariant-loop-at l =     (length l.table ≡ length l.initial.table)
+invariant-loop-at l = (length l.table ≡ length l.initial.table)
     × (length l.scratch ≡ length l.initial.scratch)
     × (length l.list ≡ length l.initial.list)
     × Standing l.cell l.end l.at
