@@ -1,4 +1,4 @@
-use mathlib.Core.Path.{refl, sym, ◌∙◌}
+use mathlib.Core.Path.{refl, ◌∙◌}
 use native.Mathlib.Omega.{arith}
 use Rattle.records.specs.Encoding.{recipe_from}
 use Rattle.walk.proofs.InputReads.{following_on_none, following_on_next, followed_on_all, followed_on_over}

@@ -1,5 +1,5 @@
 use Rattle.records.specs.Encoding.{recipe_from}
-use Rattle.walk.proofs.InputReads.{step_ended, step_failed, step_written}
+use Rattle.walk.proofs.InputReads.{step_ended}
 use Rattle.walk.proofs.take_some.Goals as goal
 
 pub returns-then-got-eq0-clause-stepped : goal.returns-then-got-eq0-clause-stepped
