@@ -5,7 +5,7 @@ use crate::plans::{self, answer_of, mixed, pair_of_files, BENCH_CELL, BENCH_RECI
 use crate::runs::{self, bench_cases, full_cases};
 use crate::{best_times, best_times_of};
 use against::calls::{Calls, Library};
-use against::independent::{dense_pair, Cell, Recipe, MOST_CHAPTERS};
+use against::independent::{dense_pair, judge_planned, Cell, Recipe, MOST_CHAPTERS};
 
 /// How many rounds are measured at least.
 const LEAST_ROUNDS: usize = 7;
@@ -50,11 +50,11 @@ fn both_cases(name: &str, (cell, recipe): (Cell, Recipe)) -> [plans::Case; 2] {
     ]
 }
 
-/// Prints a line, after a look at whether the library's tables are allowed.
+/// Prints a line, after a look at whether the library's tables are the ones that are fixed.
 fn measure_plans(name: &str, pair: (Cell, Recipe)) {
     let [mut eight, mut one] = both_cases(name, pair);
-    let answer = answer_of(eight.judged());
-    one.judged();
+    let answer = answer_of(eight.judged(judge_planned));
+    one.judged(judge_planned);
     let positions = eight.table.len();
     let [together, singly] = best_times_of(
         LEAST_ROUNDS,
@@ -95,16 +95,25 @@ fn measure_calls(one: &runs::Case) {
 #[cfg(test)]
 mod tests {
     use super::*;
+    use against::independent::judge;
 
     #[test]
     fn eight_chapters_are_measured_and_the_bench_example_is_accepted() {
         let (name, pair) = plan_cases()[0].clone();
         let [mut eight, mut one] = both_cases(name, pair);
-        assert_eq!((eight.judged(), one.judged()), (0, 0));
+        assert_eq!((eight.judged(judge), one.judged(judge)), (0, 0));
         assert_eq!((eight.table.len(), one.table.len()), (8 * 90, 90));
         assert_eq!(eight.scratch, one.scratch);
         for case in bench_cases() {
             case.in_last_of(MOST_CHAPTERS).check();
+        }
+    }
+
+    #[test]
+    fn eight_chapters_and_one_have_the_entries_that_are_owed() {
+        let (name, pair) = plan_cases()[0].clone();
+        for mut case in both_cases(name, pair) {
+            assert_eq!(case.judged(judge_planned), 0);
         }
     }
 }

@@ -6,7 +6,7 @@ use against::calls::{Calls, Independent, Library};
 use against::independent::{
     cell_bytes, cell_of_bytes, chapters_bytes, chapters_of_bytes, dense_pair, judge_planned,
     long_ways_pair, mixed_pair, odometer_pair, recipe_of_bytes, stations_reversed, with_gates,
-    with_photocells, Cell, Joined, Random, Recipe,
+    with_photocells, Cell, Joined, Judging, Random, Recipe,
 };
 use against::plans::needed;
 use against::{CellFile, Format, RecipeFile};
@@ -78,13 +78,13 @@ impl Case {
         (refusal, &self.table)
     }
 
-    /// The library's answer, after a look at whether its table is the one that is fixed.
-    pub fn judged(&mut self) -> u32 {
+    /// The library's answer, after its table was judged in this way.
+    pub fn judged(&mut self, judge: Judging) -> u32 {
         let cell = cell_of_bytes(&self.cell);
         let joined = Joined::of(&cell, &chapters_of_bytes(&self.recipes));
         let name = self.name.clone();
         let (refusal, table) = self.planned(Library::plan);
-        let judged = judge_planned(&cell, &joined, table).map(u32::from);
+        let judged = judge(&cell, &joined, table).map(u32::from);
         assert_eq!(judged, Ok(refusal), "{name}");
         refusal
     }
@@ -95,7 +95,7 @@ impl Case {
         let table = table.to_vec();
         let independent = self.planned(Independent::plan);
         assert!(independent == (plain, &table[..]), "{}", self.name);
-        assert_eq!(self.judged(), plain, "{}", self.name);
+        assert_eq!(self.judged(judge_planned), plain, "{}", self.name);
         answer_of(plain)
     }
 

@@ -8,8 +8,8 @@ use crate::random::Random;
 use crate::rounds::{accepted, show_records};
 use crate::{scratches, TOO_SHORT};
 use independent::{
-    cell_of_bytes, chapters_of_bytes, check_to_plan, entry_of, judge_planned, plan, scratch_bytes,
-    Cell, Joined, Recipe,
+    cell_of_bytes, chapters_of_bytes, check_to_plan, entry_of, judge, judge_planned, plan,
+    scratch_bytes, Cell, Joined, Judging, Recipe,
 };
 use std::fmt::{Display, Formatter, Result};
 
@@ -121,13 +121,23 @@ impl Handed {
         steps
     }
 
-    /// Makes the call, and wants of it all that the independent program can say: the refusal; if that is neither 0
-    /// nor 15, nothing changed; else a table that the judge finds without a fault, so that each entry is the
-    /// smallest that begins a shortest way, and no entry past it changed.
+    /// Makes the call, and wants of it all that the independent program can say, but for which of the moves that
+    /// lead on a position has: the refusal; if that is neither 0 nor 15, nothing changed; else a table that the judge
+    /// allows, and no entry past it changed.
     pub fn plan(&self, random: &mut Random) -> Planned {
+        self.plan_by(judge, random)
+    }
+
+    /// The same, and wants each entry to be the smallest that begins a shortest way, as the judge of planned tables
+    /// does.
+    pub fn plan_owed(&self, random: &mut Random) -> Planned {
+        self.plan_by(judge_planned, random)
+    }
+
+    fn plan_by(&self, judge: Judging, random: &mut Random) -> Planned {
         let planned = self.plan_with(Lent::bytes(self.scratch, random), random);
         if planned.is_filled() {
-            let owed = self.judged(&planned.table);
+            let owed = self.judged(judge, &planned.table);
             assert_eq!(planned.refusal, u32::from(owed), "the refusal\n{self}");
         }
         planned
@@ -221,12 +231,11 @@ impl Handed {
         records.map_or(0, |(_, joined)| joined.sizes.positions as usize)
     }
 
-    /// The answer that is owed with this planned table, in which the judge must find no fault.
-    fn judged(&self, table: &[u32]) -> u8 {
+    /// The answer that is owed with this table, in which the judge must find no fault.
+    fn judged(&self, judge: Judging, table: &[u32]) -> u8 {
         let (cell, chapters) = self.records();
         let joined = Joined::of(&cell, &chapters);
-        let judged = judge_planned(&cell, &joined, table);
-        judged.unwrap_or_else(|fault| panic!("{fault}\n{self}"))
+        judge(&cell, &joined, table).unwrap_or_else(|fault| panic!("{fault}\n{self}"))
     }
 }
 

@@ -13,7 +13,7 @@ use against::rounds::{accepted, compare, Round, Table};
 use against::{CellFile, RecipeFile, RunRecord};
 use independent::{
     cell_bytes, chapters_bytes, check, check_cell, check_recipe, cut, dense_pair, entry_of,
-    every_point_is_reached, open_moves, run_bytes, run_of_bytes, Joined, Move, Run, CELL_BYTES,
+    every_point_is_reached, open_entries, run_bytes, run_of_bytes, Joined, Run, CELL_BYTES,
     MOST_CHAPTERS, MOST_LINES, MOST_POSITIONS, MOST_RESOURCES, RECIPE_BYTES, RUN_BYTES, STAY,
 };
 use std::slice;
@@ -119,13 +119,17 @@ fn the_example_has_one_possible_move_everywhere() {
     let Planned { table, .. } = planned(&pair);
     let (cell, joined) =
         accepted(&pair.cell_bytes(), &pair.recipes_bytes()).expect("it is accepted");
-    let leads_on = |open: &Move| open.next.iter().all(|&next| table[next] != 0);
+    let leads_on = |run: &Run, entry: u32| {
+        let made = [0, 1].map(|outcome| joined.makes(&cell, run, entry, outcome));
+        let mut next = made.iter().flatten().map(|run| joined.position(run));
+        next.all(|position| table[position as usize] != 0)
+    };
     let mut members = 0;
     for position in (0..joined.sizes.positions).filter(|&p| table[p as usize] != 0) {
-        let mut moves = open_moves(&cell, &joined, position);
-        moves.retain(leads_on);
-        let entries: Vec<u32> = moves.iter().map(|open| open.entry).collect();
-        assert_eq!(entries, [table[position as usize]]);
+        let run = joined.run_at(position);
+        let mut open = open_entries(&cell, &joined, &run);
+        open.retain(|&entry| leads_on(&run, entry));
+        assert_eq!(open, [table[position as usize]]);
         members += 1;
     }
     // The start; earlier ends with the part at station 1 or on its way there, and the test from there; the part
@@ -915,6 +919,15 @@ fn a_record_of_one_end_is_a_joint_whatever_stands_behind() {
     );
 }
 
+/// How a recipe that is cut is to be like the whole.
+#[derive(Clone, Copy)]
+enum Alike {
+    /// A position has a move in the one exactly if it has one in the other. Which of several moves that is, is free.
+    Alive,
+    /// Each position has the same move in both.
+    Moved,
+}
+
 /// What was seen of recipes that were cut, by the number of chapters.
 #[derive(Debug, Default)]
 struct Cuts {
@@ -926,8 +939,10 @@ struct Cuts {
 }
 
 /// Wants the run of the whole and that of the cut, both by the library, to stand at the same points in the same
-/// configurations and to make the same moves, on the same outcomes, until the end.
+/// configurations as long as both make the same moves, on the same outcomes; which they must until the end if their
+/// moves are to be the same.
 fn follow_both(
+    alike: Alike,
     whole: (&Pair, &[u32]),
     in_chapters: (&Pair, &[u32]),
     points: &[(u8, u8)],
@@ -944,8 +959,10 @@ fn follow_both(
             let (cell, recipes) = (pair.cell_bytes(), pair.recipes_bytes());
             Library::next_move(&cell, &recipes, table, run)
         });
-        assert_eq!(entries[0], entries[1]);
-        if entries[0] == u64::from(entry_of(STAY, [0; 4])) {
+        if let Alike::Moved = alike {
+            assert_eq!(entries[0], entries[1]);
+        }
+        if entries[0] != entries[1] || entries[0] == u64::from(entry_of(STAY, [0; 4])) {
             return;
         }
         let outcome = random.below(2) as u8;
@@ -957,8 +974,8 @@ fn follow_both(
     }
 }
 
-#[test]
-fn cut_recipes_have_the_moves_of_the_whole() {
+/// Wants seeded recipes that are cut to be like the whole in this way.
+fn compare_cuts(alike: Alike) {
     let mut random = Random::new(73);
     let mut source = independent::Random(74);
     let mut seen = Cuts::default();
@@ -973,14 +990,22 @@ fn cut_recipes_have_the_moves_of_the_whole() {
         let [of_whole, of_cut] = [&whole, &in_chapters].map(planned);
         assert_eq!(of_whole.refusal, of_cut.refusal);
         let joined = Joined::of(&cell, &cut.chapters);
-        assert_entries_alike(&of_whole.table, &of_cut.table, &joined, &cut.points);
+        let tables = [&of_whole.table[..], &of_cut.table];
+        assert_tables_alike(alike, tables, &joined, &cut.points);
         let count = cut.chapters.len();
         seen.compared[count] += 1;
         if of_whole.refusal == 0 {
             seen.accepted[count] += 1;
             let whole = (&whole, &of_whole.table[..]);
             let in_chapters = (&in_chapters, &of_cut.table[..]);
-            follow_both(whole, in_chapters, &cut.points, &mut random, &mut seen);
+            follow_both(
+                alike,
+                whole,
+                in_chapters,
+                &cut.points,
+                &mut random,
+                &mut seen,
+            );
         }
     }
     println!("{seen:?}");
@@ -991,13 +1016,33 @@ fn cut_recipes_have_the_moves_of_the_whole() {
     assert!(seen.calls >= 1_000 && seen.joints >= 300);
 }
 
-/// Wants the cut to have the entries of the whole, point by point.
-fn assert_entries_alike(whole: &[u32], of_cut: &[u32], joined: &Joined, points: &[(u8, u8)]) {
+/// Wants the tables of the whole and of the cut to be alike in this way, point by point.
+fn assert_tables_alike(
+    alike: Alike,
+    [whole, of_cut]: [&[u32]; 2],
+    joined: &Joined,
+    points: &[(u8, u8)],
+) {
     let configurations = joined.sizes.configurations() as usize;
     for (entries, &(chapter, point)) in whole.chunks(configurations).zip(points) {
         let start = usize::from(joined.number(chapter, point)) * configurations;
-        assert_eq!(entries, &of_cut[start..][..configurations]);
+        let others = &of_cut[start..][..configurations];
+        let same = |(one, other): (&u32, &u32)| match alike {
+            Alike::Alive => (*one == 0) == (*other == 0),
+            Alike::Moved => one == other,
+        };
+        assert!(entries.iter().zip(others).all(same));
     }
+}
+
+#[test]
+fn cut_recipes_are_alive_where_the_whole_is() {
+    compare_cuts(Alike::Alive);
+}
+
+#[test]
+fn cut_recipes_have_the_moves_of_the_whole() {
+    compare_cuts(Alike::Moved);
 }
 
 #[test]

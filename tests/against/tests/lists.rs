@@ -5,7 +5,7 @@ use against::lists::{Form, List, Seen};
 use against::pairs::{self, Pair};
 use against::random::Random;
 use against::rounds::{accepted, Table};
-use independent::{kind_of, open_moves, Book, Cell, Joined, CARRY};
+use independent::{kind_of, open_entries, Book, Cell, Joined, CARRY};
 
 /// Pairs of a cell and a recipe, those in several chapters, lists over each, and calls in a list.
 const PAIRS: usize = 300;
@@ -28,12 +28,12 @@ const LEAST_AT_GATES: usize = 150;
 fn seeded_table((cell, joined): &(Cell, Joined), random: &mut Random) -> Vec<u32> {
     let unlimited = pairs::unlimited(cell);
     let entry = |position| {
+        let run = joined.run_at(position);
         let look_at = match random.below(8) {
             0 => &unlimited,
             _ => cell,
         };
-        let moves = open_moves(look_at, joined, position);
-        let mut open: Vec<u32> = moves.iter().map(|open| open.entry).collect();
+        let mut open = open_entries(look_at, joined, &run);
         let is_carry = |&entry: &u32| kind_of(entry) == CARRY;
         if open.iter().any(is_carry) && random.coin() {
             open.retain(is_carry);

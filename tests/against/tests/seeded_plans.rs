@@ -12,9 +12,10 @@ use against::random::Random;
 use against::{reason_for_24, scratches, BAD_CHAPTERS, REFUSALS, TOO_SHORT, UNREACHED};
 use independent::{
     cell_bytes, cell_of_bytes, chapters_bytes, dense_pair, every_point_is_reached, is_overfull,
-    joint_choices, judge_planned, kind_of, letters_of, long_ways_pair, mixed_pair, odometer_pair,
-    plan, stored_table, with_gates, with_photocells, without_gates, without_photocells, Book, Cell,
-    Joined, Recipe, CARRY, FEW_JOINT_CHOICES, MOST_CHAPTERS, MOST_POSITIONS, STAY,
+    joint_choices, judge, judge_planned, kind_of, letters_of, long_ways_pair, mixed_pair,
+    odometer_pair, plan, stored_table, with_gates, with_photocells, without_gates,
+    without_photocells, Book, Cell, Joined, Judging, Recipe, CARRY, FEW_JOINT_CHOICES,
+    MOST_CHAPTERS, MOST_POSITIONS, STAY,
 };
 use std::slice;
 
@@ -656,6 +657,11 @@ fn only_chapter((cell, recipe): (Cell, Recipe)) -> (Cell, Vec<Recipe>) {
     (cell, vec![recipe])
 }
 
+/// The most positions in a chapter of the small pair with this number.
+fn few_positions(n: usize) -> u64 {
+    [60, 400, 400, 400, 2_000, 5_000][n / 2 % 6]
+}
+
 /// Plans small pairs, with enough lent and with too little, and after some damage. `chapters` makes a pair of at
 /// most so many positions in each chapter.
 fn plan_small(
@@ -666,7 +672,7 @@ fn plan_small(
 ) -> Seen {
     let mut seen = Seen::default();
     for n in 0..count {
-        let most = [60, 400, 400, 400, 2_000, 5_000][n / 2 % 6];
+        let most = few_positions(n);
         let pair = chapters(n, most, random);
         plan_short(&pair, random, &mut seen);
         let rows = match n % 16 {
@@ -708,6 +714,58 @@ fn small_pairs_in_chapters() {
     let count = SMALL_PAIRS_IN_CHAPTERS;
     let seen = plan_small(count, chapters, lists, &mut Random::new(19));
     seen.judge_small_chapters();
+}
+
+/// Plans these pairs, but for those with an unreached point, and wants tables with the entries that are owed. How
+/// many are accepted, and how many are refused with 15.
+fn plan_owed(pairs: impl Iterator<Item = (Cell, Vec<Recipe>)>, random: &mut Random) -> [usize; 2] {
+    let mut answers = [0; 2];
+    for (cell, chapters) in pairs {
+        if chapters.iter().all(every_point_is_reached) {
+            let handed = Handed::of(cell_bytes(&cell).to_vec(), chapters_bytes(&chapters));
+            let refused = handed.plan_owed(random).refusal == 15;
+            answers[usize::from(refused)] += 1;
+        }
+    }
+    println!("realisable and not {answers:?}");
+    answers
+}
+
+#[test]
+fn small_pairs_have_the_entries_that_are_owed() {
+    let mut source = independent::Random(12);
+    let pairs = (0..SMALL_PAIRS).map(|n| either_pair(n, few_positions(n), &mut source));
+    let answers = plan_owed(pairs.map(only_chapter), &mut Random::new(24));
+    assert!(answers.iter().all(|&times| times >= 3_000));
+}
+
+#[test]
+fn small_pairs_in_chapters_have_the_entries_that_are_owed() {
+    let mut source = independent::Random(20);
+    let mut counts = Random::new(25);
+    let pairs = (0..SMALL_PAIRS_IN_CHAPTERS).map(|n| {
+        let most = (few_positions(n) / 4).max(60);
+        either_chapters(n, most, pairs::several(&mut counts), &mut source)
+    });
+    let answers = plan_owed(pairs, &mut Random::new(26));
+    assert!(answers.iter().all(|&times| times >= 800));
+}
+
+#[test]
+fn great_pairs_have_the_entries_that_are_owed() {
+    let is_great = |(cell, chapters): &(Cell, Vec<Recipe>)| {
+        Joined::of(cell, chapters).greatest_positions() > GREAT
+    };
+    let mut source = independent::Random(14);
+    let alone = (0..).map(|n| only_chapter(either_pair(n, MOST_POSITIONS, &mut source)));
+    let alone = alone.filter(is_great).take(GREAT_PAIRS);
+    let mut source = independent::Random(23);
+    let joined = (0..).map(|n| either_chapters(n, MOST_POSITIONS, 2, &mut source));
+    let joined = joined.filter(is_great).take(GREAT_PAIRS_IN_CHAPTERS);
+    let dense = [dense_pair(), with_gates(dense_pair())].map(only_chapter);
+    let pairs = alone.chain(joined).chain(dense);
+    let answers = plan_owed(pairs, &mut Random::new(27));
+    assert!(answers.iter().all(|&times| times >= 5));
 }
 
 /// Plans with scratches of lengths near the least that will do, and of others, whatever they hold. `positions` are
@@ -770,8 +828,8 @@ fn scratches_of_every_length_near_the_least() {
     seen.judge(1_000, 500);
 }
 
-#[test]
-fn one_table_for_many_pairs() {
+/// Plans many pairs in one table and scratch, and judges the table each time in this way.
+fn judge_one_table_for_many_pairs(judge: Judging) {
     let mut source = independent::Random(16);
     let mut random = Random::new(21);
     // Each pair is planned with what the one before has left.
@@ -792,13 +850,23 @@ fn one_table_for_many_pairs() {
             continue;
         }
         let joined = Joined::of(&cell, &chapters);
-        let judged = judge_planned(&cell, &joined, &table).map(u32::from);
+        let judged = judge(&cell, &joined, &table).map(u32::from);
         assert_eq!(judged, Ok(refusal));
         let positions = joined.sizes.positions as usize;
         assert_eq!(table[positions..], before[positions..]);
     }
     println!("plans by refusal {refusals:?}");
     assert!(refusals[0] >= 1_000 && refusals[15] >= 300 && refusals[22] >= 200);
+}
+
+#[test]
+fn one_table_for_many_pairs() {
+    judge_one_table_for_many_pairs(judge);
+}
+
+#[test]
+fn one_table_for_many_pairs_has_the_entries_that_are_owed() {
+    judge_one_table_for_many_pairs(judge_planned);
 }
 
 #[test]

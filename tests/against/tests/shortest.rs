@@ -35,7 +35,7 @@ const LEAST_SEEN: usize = 1_000;
 
 /// The table that the library plans, which must be the one that is owed, and its answer.
 fn planned(pair: &Pair) -> Planned {
-    Handed::of_pair(pair).plan(&mut Random::new(1))
+    Handed::of_pair(pair).plan_owed(&mut Random::new(1))
 }
 
 #[test]

@@ -251,6 +251,33 @@ pub(crate) fn planned_chapters(cell: &Cell, joined: &Joined) -> (u8, Vec<u32>) {
     (refusal, table)
 }
 
+/// How many letters there are to try for the moves of all positions together.
+pub(crate) fn letters_to_try(cell: &Cell, joined: &Joined) -> u64 {
+    let points = 0..joined.sizes.points as u8;
+    let letters = points.map(|number| {
+        let (chapter, point) = joined.chapter_and_point(number);
+        used_letters(joined.chapter(chapter), point)
+    });
+    let most = letters.max().unwrap_or(0) as u32;
+    u64::from(cell.count).pow(most) * joined.sizes.positions
+}
+
+/// The most letters that a move at a point uses: two in a transfer and at a test, else one for each of its lines.
+pub(crate) fn used_letters(recipe: &Recipe, point: u8) -> usize {
+    recipe.lines_at(point).len().max(2)
+}
+
+/// A table that is allowed, found slowly from the greatest simulation by joint steps: of the moves that lead on,
+/// `choose` picks one at each position or puts the position off.
+pub(crate) fn slow_table(
+    cell: &Cell,
+    joined: &Joined,
+    choose: impl FnMut(&[u32]) -> Option<u32>,
+) -> Vec<u32> {
+    let greatest = greatest_simulation(cell, joined);
+    Ways::of(cell, joined, &greatest).earlier_table(choose)
+}
+
 /// The table that is owed for chapters, by trying every single move on the greatest simulation by joint steps.
 pub(crate) fn owed_table(cell: &Cell, joined: &Joined) -> Vec<u32> {
     let greatest = greatest_simulation(cell, joined);

@@ -49,9 +49,9 @@ pub use install::{
     Install, Process,
 };
 pub use joined::Joined;
-pub use judge::{judge, judge_planned, longest_way, Fault, FEW_JOINT_CHOICES};
+pub use judge::{judge, judge_planned, longest_way, Fault, Judging, FEW_JOINT_CHOICES};
 pub use limits::{is_overfull, read_limits, LIMITS_NAMES};
-pub use moves::{open_moves, Move};
+pub use moves::{open_entries, Move};
 pub use next_set::next_set;
 pub use plan::{plan, stored_table};
 pub use random::Random;
