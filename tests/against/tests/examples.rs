@@ -7,7 +7,7 @@ use std::collections::BTreeMap;
 use std::fs;
 use std::path::{Path, PathBuf};
 use std::process::Command;
-use std::sync::OnceLock;
+use std::sync::{Mutex, OnceLock};
 
 const BENCH_CELL: &str = include_str!("../../../examples/bench/cell.csv");
 const BENCH_RECIPE: &str = include_str!("../../../examples/bench/recipe.csv");
@@ -98,9 +98,13 @@ fn plan_table() -> &'static Path {
     PROGRAM.get_or_init(|| compile("plan_table"))
 }
 
+/// The file of an expected output.
+fn stored(name: &str) -> PathBuf {
+    Path::new(env!("CARGO_MANIFEST_DIR")).join(format!("expected/{name}.txt"))
+}
+
 fn expected(name: &str) -> String {
-    let stored = Path::new(env!("CARGO_MANIFEST_DIR")).join(format!("expected/{name}.txt"));
-    fs::read_to_string(stored).expect("the expected output is there")
+    fs::read_to_string(stored(name)).expect("the expected output is there")
 }
 
 /// A folder of this name with these files, where they are given.
@@ -282,6 +286,20 @@ fn print_table(name: &str, cell: &str, chapters: &[&str], limits: Option<&str>) 
     compare(name, command.args(files));
 }
 
+/// Compares what a script prints, which is run in the nest example's folder, with the stored output.
+fn run_script(script: &str, arguments: &[&str], name: &str) {
+    // Each builds its program anew, which no other may run meanwhile.
+    static ONE_AT_A_TIME: Mutex<()> = Mutex::new(());
+    let _waited = ONE_AT_A_TIME.lock();
+    let output = Command::new(root().join("examples/c").join(script))
+        .args(arguments)
+        .current_dir(root().join("examples/nest"))
+        .output()
+        .expect("the script starts");
+    assert_eq!(String::from_utf8_lossy(&output.stdout), expected(name));
+    assert!(output.status.success());
+}
+
 #[test]
 fn the_bench_example() {
     check("bench", Some(BENCH_CELL), Some(BENCH_RECIPE));
@@ -289,40 +307,51 @@ fn the_bench_example() {
 
 #[test]
 fn the_scripts_build_and_run_the_examples() {
+    let nest = ["-l", "limits.csv", "cell.csv", "recipe.csv"];
+    let limited = "-l limits.csv cell.csv recipe.csv 0 0 0 0 0";
+    let limited: Vec<&str> = limited.split(' ').collect();
+    let gate = "../gate/cell.csv ../gate/recipe.csv 0 0 0 0";
+    let gate: Vec<&str> = gate.split(' ').collect();
+    let lane = "../lane/cell.csv ../lane/recipe.csv 0 0 0 0";
+    let lane: Vec<&str> = lane.split(' ').collect();
+    let chapters = ["cell.csv", "recipe_0.csv", "recipe_1.csv"].map(|f| format!("../chapters/{f}"));
+    let chapters: Vec<&str> = chapters.iter().map(String::as_str).collect();
+    let screened = [&chapters[..], &["0", "0", "1", "0"]].concat();
+    let followed = [&chapters[..], &["../chapters/table.csv", "0000"]].concat();
+    for (script, arguments, name) in [
+        ("run", &[][..], "bench"),
+        ("follow", &[], "follow"),
+        ("screen", &[], "screen"),
+        ("run", &nest, "nest"),
+        ("screen", &limited, "screen_nest"),
+        ("screen", &gate, "screen_gate_opens"),
+        ("screen", &lane, "screen_lane"),
+        ("install", &[], "install"),
+        ("run", &chapters, "chapters"),
+        ("screen", &screened, "screen_chapters"),
+        ("follow", &followed, "follow_chapters"),
+    ] {
+        run_script(script, arguments, name);
+    }
+}
+
+#[test]
+fn the_scripts_print_tables_and_run_the_way_example() {
     let nest = "-l limits.csv cell.csv recipe.csv";
-    let gate = "../gate/cell.csv ../gate/recipe.csv";
-    let lane = "../lane/cell.csv ../lane/recipe.csv";
     let chapters = "../chapters/cell.csv ../chapters/recipe_0.csv ../chapters/recipe_1.csv";
-    let stored = "../chapters/table.csv 0000";
     let way = "../way/cell.csv ../way/recipe.csv";
     let before = "../way/table_before.csv 000";
     for (script, files, rest, name) in [
-        ("run", "", "", "bench"),
-        ("follow", "", "", "follow"),
-        ("screen", "", "", "screen"),
-        ("install", "", "", "install"),
         ("table", "", "", "table"),
-        ("run", nest, "", "nest"),
-        ("screen", nest, "0 0 0 0 0", "screen_nest"),
         ("table", nest, "", "table_nest"),
-        ("screen", gate, "0 0 0 0", "screen_gate_opens"),
-        ("screen", lane, "0 0 0 0", "screen_lane"),
-        ("run", chapters, "", "chapters"),
-        ("screen", chapters, "0 0 1 0", "screen_chapters"),
-        ("follow", chapters, stored, "follow_chapters"),
         ("table", chapters, "", "table_chapters"),
         ("screen", way, "0 0", "screen_way"),
         ("follow", way, before, "follow_way_before"),
         ("table", way, "", "table_way"),
     ] {
-        let output = Command::new(root().join("examples/c").join(script))
-            .args(files.split_whitespace())
-            .args(rest.split_whitespace())
-            .current_dir(root().join("examples/nest"))
-            .output()
-            .expect("the script starts");
-        assert_eq!(String::from_utf8_lossy(&output.stdout), expected(name));
-        assert!(output.status.success());
+        let arguments = [files, rest].map(str::split_whitespace);
+        let arguments: Vec<&str> = arguments.into_iter().flatten().collect();
+        run_script(script, &arguments, name);
     }
 }
 
@@ -362,9 +391,6 @@ fn a_file_longer_than_the_first_read() {
 #[test]
 fn the_bench_example_followed_to_its_end() {
     let files = [BENCH_CELL, BENCH_RECIPE, BENCH_TABLE];
-    follow("follow", files, "0010");
-    // The printed table, which has the positions too to which no run comes, is followed in the same way.
-    let files = [BENCH_CELL, BENCH_RECIPE, &expected("table")];
     follow("follow", files, "0010");
 }
 
@@ -411,14 +437,6 @@ fn a_recipe_in_two_chapters() {
     screen_chapters("screen_chapters_end", CHAPTERS_CELL, &CHAPTERS, &outcomes);
     let table = CHAPTERS_TABLE;
     follow_chapters("follow_chapters", CHAPTERS_CELL, &CHAPTERS, table, "0000");
-    let printed = expected("table_chapters");
-    follow_chapters(
-        "follow_chapters",
-        CHAPTERS_CELL,
-        &CHAPTERS,
-        &printed,
-        "0000",
-    );
     follow_chapters(
         "follow_chapters_17",
         CHAPTERS_CELL,
@@ -617,6 +635,25 @@ fn a_printed_table_has_every_entry_of_the_plan_and_the_stored_ones() {
         let printed = expected(name);
         assert_eq!(printed, whole_table(cell, chapters));
         assert_eq!(lines_beside(stored, &printed), [""; 0], "{name}");
+    }
+}
+
+#[test]
+fn a_printed_table_is_followed_as_the_stored_one() {
+    // It has the positions too to which no run comes.
+    for (name, cell, chapters, printed, outcomes) in [
+        ("follow", BENCH_CELL, &[BENCH_RECIPE][..], "table", "0010"),
+        (
+            "follow_chapters",
+            CHAPTERS_CELL,
+            &CHAPTERS,
+            "table_chapters",
+            "0000",
+        ),
+    ] {
+        let mut files = chapter_files("follow_printed", cell, chapters);
+        files.push(stored(printed));
+        compare(name, Command::new(follow_table()).args(files).arg(outcomes));
     }
 }
 
