@@ -5,6 +5,7 @@
 ghost use Rattle.std.specs.Prelude.{◌≡◌, false, [], ◌∷◌, ◌*◌, ◌≤◌, length, take, IsTrue};
 ghost use Rattle.std.specs.Io.KnownBytes.{Appends, Consumes};
 ghost use Rattle.refusals.specs.Verdict.{first_refusal};
+ghost use Rattle.recipe.specs.Reader.{read_recipe};
 ghost use Rattle.records.specs.Encoding.{recipe_from};
 ghost use Rattle.walk.specs.Counts.{IsPrefixLen};
 ghost use Rattle.walk.specs.Output.{below, CellRead, RecipeRead, Prepared, FixedPrepared, Stepped, Followed, FollowedOn, Walk};
@@ -173,7 +174,8 @@ fn read_cell<F: Files>(files: &F) -> CellReading
 // The recipe of the working directory, which is not read if the cell is refused: then it counts as
 // empty.
 fn read_recipe<F: Files>(files: &F, cell: Verdict) -> RecipeReading
-    ensures { RecipeRead result }
+    ensures read { RecipeRead result }
+    ensures unread { (cell ≡ Verdict.Accepted → ⊥) → result ≡ read_recipe [] }
 {
     let Verdict::Accepted = cell else {
         return recipe::read_recipe(b"");
@@ -193,8 +195,8 @@ fn first_refusal(first: Verdict, second: Verdict) -> Verdict
     second
 }
 
-// Reads the cell and the recipe, of which it keeps the record's bytes, and plans with 8192 places: a scratch of 1024 bytes has as
-// many.
+// Reads the cell and the recipe, of which it keeps the record's bytes, and plans with 8192 places: a
+// scratch of 1024 bytes has as many.
 fn prepare<F: Files>(files: &F, recipes: &mut [u8], table: &mut [u32]) -> Ready
     requires recipes_len { length recipes.old ≡ 449 }
     requires table_len { length table.old ≡ 8192 }
@@ -285,6 +287,7 @@ fn follow<I: Read, O: Write, E: Eprint>(
         (O.contents printer.old.output) (O.contents printer.new.output) }
 {
     let mut bytes = [0u8; 1024];
+    // A line has at most 64 bytes.
     let mut text = [0u8; 65536];
     let mut step = Step {
         got: 0,

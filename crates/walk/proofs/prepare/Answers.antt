@@ -8,18 +8,18 @@ returns-in_default g c =
     let cell = c.read_cell-reading in
     let recipe = c.read_recipe-reading in
     record {
-      prepared = prepared_refused _ _ cell.result recipe.result cell.ensures recipe.ensures _ c.first_refusal-verdict.ensures c.in_default.is;
-      fixed = fixed_refused _ _ cell.result recipe.result cell.ensures recipe.ensures _ c.first_refusal-verdict.ensures c.in_default.is;
+      prepared = prepared_refused _ _ cell.result recipe.result cell.ensures recipe.ensures.read _ c.first_refusal-verdict.ensures c.in_default.is;
+      fixed = fixed_refused _ _ cell.result recipe.result cell.ensures recipe.ensures.read _ c.first_refusal-verdict.ensures c.in_default.is;
     }
 
 pub put_recipe-requires : goal.put_recipe-requires
-put_recipe-requires g c = (few_lines c.read_recipe-reading.ensures, omega (arith, c.requires.recipes_len))
+put_recipe-requires g c = (few_lines c.read_recipe-reading.ensures.read, omega (arith, c.requires.recipes_len))
 
 pub returns : goal.returns
 returns g c =
     let cell = c.read_cell-reading in
     let reading = c.read_recipe-reading.result in
-    let read = c.read_recipe-reading.ensures in
+    let read = c.read_recipe-reading.ensures.read in
     let old = c.args.recipes.now in
     let long = c.requires.recipes_len in
     let put = c.put_recipe.ensures in
