@@ -13,10 +13,15 @@ use Rattle.cell.specs.declared.Cell.{Cell}
 use Rattle.recipe.specs.declared.Recipe.{Recipe}
 use Rattle.run.specs.declared.Run.{Run}
 use Rattle.run.specs.Calls.{fresh_run}
+use Rattle.printout.specs.declared.Answer.{Answer}
 use Rattle.walk.specs.declared.Step.{Step}
-use Rattle.printout.specs.Turn.{walked, printed}
+use Rattle.printout.specs.Turn.{walked, printed, Answers}
 use Rattle.walk.specs.Output.{Stepped, Followed, FollowedOn}
 use Rattle.printout.proofs.InputInParts.{walked_parts, printed_parts}
+
+-- a prefix has as many bytes as it was cut to
+pub prefix_counts : (n : ℕ) (text : List ℕ) → n ≤ length text → n ≡ length (take n text)
+prefix_counts n text inside = sym (length-take-le n text inside)
 
 not_true_false : (b : Bool) → (b ≡ true → ⊥) → b ≡ false
 not_true_false true fails = absurd (fails refl)
@@ -38,6 +43,41 @@ module _ (c : Cell) (r : Recipe) (table : List ℕ) where
           ended = λ none. refl;
           failed_ends = λ failed. refl;
         })
+
+    module _
+        (got : ℕ) (inside : got ≤ length bytes) (answer : Answer) (answers : Answers c r table run (take got bytes) text answer)
+        (handed : ℕ) (whole : handed ≡ answer.length)
+      where
+        lines_handed : take handed text ≡ printed c r table run (take got bytes)
+        lines_handed = ap (λ (n : ℕ). take n text) whole ∙ answers.lines_are
+
+        -- an answer that could not be written
+        pub step_failed : Stepped c r table run bytes text (record { got = got; length = handed; failed = true; more = false; run = answer.run })
+        step_failed =
+            record {
+              bytes_inside = inside;
+              text_inside = omega (arith, whole, answers.inside);
+              text_is = lines_handed;
+              run_is = answers.run_is;
+              more_is = λ some (kept : true ≡ false). absurd (true≢false kept);
+              ended = λ none. refl;
+              failed_ends = λ failed. refl;
+            }
+
+        -- and one that was
+        pub step_written : (got ≡ 0 → ⊥)
+            → Stepped c r table run bytes text
+            (record { got = got; length = handed; failed = false; more = answer.more; run = answer.run })
+        step_written some =
+            record {
+              bytes_inside = inside;
+              text_inside = omega (arith, whole, answers.inside);
+              text_is = lines_handed;
+              run_is = answers.run_is;
+              more_is = λ here kept. answers.more_is;
+              ended = λ none. absurd (some none);
+              failed_ends = λ (failed : false ≡ true). absurd (true≢false (sym failed));
+            }
 
   -- while reads are left
   pub record Following (reads left : ℕ) (step : Step) : Type 0 where
