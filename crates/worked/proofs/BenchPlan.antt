@@ -46,8 +46,8 @@ use Rattle.worked.proofs.SingleRecipes.{single_entries, single_entry, single_onl
 use Rattle.worked.proofs.SingleRecipes.{all_checked}
 use Rattle.worked.proofs.Certificates.{staged_unrealisable}
 use Rattle.worked.proofs.EveryPosition.{in_chapter, everywhere}
-use Rattle.worked.proofs.FormedEntries.{pairs_pass, formed_pass}
-use Rattle.worked.proofs.ChapterStages.{lowers, keeps_in, staged_in, are_stages_in}
+use Rattle.worked.proofs.FormedEntries.{pairs_pass, few_formed_pass}
+use Rattle.worked.proofs.ChapterStages.{lowers, keeps_in, few_staged_in, are_few_stages_in}
 use Rattle.worked.proofs.ChapterCertificates.{passes_at, closed_in, are_closed}
 use Rattle.worked.proofs.ShownTables.{no_better, soonest_at, lost_at, joint_at, is_shown, shown_planned, shown_fixed}
 use native.Mathlib.Decide.{ℕ_discrete}
@@ -107,7 +107,7 @@ unfolding is_of first_below any_below all_below count_below greatest_below tabul
     state_after receiver handed place_after after serves matches stands_at present free carries put_there placed parts_moved after_carry entry_kind
     letter unused lines_used carry_letters letters_used names_gate is_line is_formed only step_of may_be_taken taken effect is_move opens leaves makes leads_to cell.in_range cell.gap
     cell.has_no_line recipe.in_range recipe.has_unused farthest state_fits place_fits is_silent is_free line_verdict chapter_at is_earlier landing then_at
-    else_at points_at sizes.parts_in sizes_in begins position_in entry_in pairs_pass formed_pass in_chapter everywhere lowers keeps_in staged_in are_stages_in passes_at
+    else_at points_at sizes.parts_in sizes_in begins position_in entry_in pairs_pass few_formed_pass in_chapter everywhere lowers keeps_in few_staged_in are_few_stages_in passes_at
     closed_in are_closed no_better soonest_at lost_at joint_at is_shown
 computed =
     record {

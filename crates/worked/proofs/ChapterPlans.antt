@@ -36,8 +36,7 @@ use Rattle.simulation.proofs.ClosedTableTest.{rank_of, has_entry, leads_on, clos
 use Rattle.worked.specs.Moves.{filled, bench_cell}
 use Rattle.worked.specs.Chaptered.{whole_recipe, cut_first, cut_second, whole, cut, first_alone, second_alone, twice, at_first, at_second, tested}
 use Rattle.worked.specs.ChapteredPlans.{whole_table, whole_ranks, cut_table, cut_ranks, first_table, first_ranks, second_stages, twice_stages}
-use Rattle.worked.proofs.FormedEntries.{pairs_pass, formed_pass}
-use Rattle.worked.proofs.EveryPosition.{in_chapter, everywhere}
+use Rattle.worked.proofs.FormedEntries.{formed_pass}
 use Rattle.worked.proofs.FineChapters.{Fine, fine_checked}
 use Rattle.worked.proofs.ChapterStages.{lowers, keeps_in, staged_in, are_stages_in}
 use Rattle.worked.proofs.ChapterCertificates.{passes_at, closed_in, are_closed, sole_at, entry_greatest, closed_realisable, staged_never}
@@ -150,7 +149,7 @@ unfolding is_of first_below any_below all_below count_below greatest_below tabul
     names_gate is_line is_formed only step_of may_be_taken taken effect is_move opens leaves makes leads_to cell.in_range cell.gap cell.has_no_line
     recipe.in_range recipe.has_unused farthest is_silent is_free line_verdict reached.leads reached.line_leads reached.leads_on reached.chained
     reached.is_reached reached.rule22 chapter_at is_earlier landing then_at else_at points_at parts_in sizes_in begins position_in entry_in rule24
-    rule24_joint chapter_rules in_turn chapters_rules record_rules rule13 pairs_pass formed_pass in_chapter everywhere lowers keeps_in staged_in are_stages_in passes_at closed_in
+    rule24_joint chapter_rules in_turn chapters_rules record_rules rule13 formed_pass lowers keeps_in staged_in are_stages_in passes_at closed_in
     are_closed sole_at at_first at_second tested place_count is_position place_fits state_fits next_point
 computed =
     record {

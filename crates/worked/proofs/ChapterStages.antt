@@ -1,6 +1,7 @@
 -- Stages over the joined recipe: a number for each position of its chapters, and the test of such a list that the checker computes. At
 -- a position of a stage above 0 no silent move raises the stage or ends it, and every carry has an outcome that lowers it where it
--- lands. Such positions are lost. For chapters of one or two lines to a point. Assumes nothing.
+-- lands. Such positions are lost. For chapters of one line to a
+-- point, and for those of one or two. Assumes nothing.
 use mathlib.Core.Path.{◌≡◌, sym, ap, ◌∙◌}
 use mathlib.Core.Logic.{⊎_elim}
 use mathlib.Core.Bool.{Bool, true, false, not, ◌&&◌, ◌||◌}
@@ -15,15 +16,23 @@ use Rattle.positions.specs.declared.Configuration.{Configuration}
 use Rattle.steps.specs.Entry.{is_formed}
 use Rattle.steps.specs.Effect.{Effect, shut, silent, carried, ended, effect}
 use Rattle.steps.proofs.Effects.{read_silent, read_carried}
-use Rattle.chapters.specs.Joined.{Chapters, Point, recipe_at, kind_at, then_at, else_at}
+use Rattle.chapters.specs.Joined.{Chapters, Point, recipe_at, kind_at, then_at, else_at, point_in}
 use Rattle.chapters.specs.Sizes.{Measures, entry_in}
 use Rattle.chapters.specs.Checked.{AllChecked}
 use Rattle.simulation.specs.Simulation.{PositionIn}
 use Rattle.simulation.proofs.Machine.{goes, Lost}
-use Rattle.simulation.proofs.JoinedMachine.{kind_on, joined_machine, finish_end, lands_then, lands_else, joined_laws}
+use Rattle.simulation.proofs.JoinedMachine.{kind_on, joined_machine, finish_end, lands_then, lands_else, joined_laws, checked_at}
 use Rattle.simulation.proofs.Stages.{Falls, Stages, staged_lost}
 use Rattle.worked.proofs.EveryPosition.{everywhere, at_position}
-use Rattle.worked.proofs.FormedEntries.{formed_pass, formed_passes}
+use Rattle.worked.proofs.FormedEntries.{formed_pass, few_formed_pass, formed_few, few_formed_passes}
+use lib.ListN.{length}
+use Rattle.refusals.specs.Search.{all_below}
+use Rattle.refusals.proofs.EveryBelow.{all_at}
+use Rattle.refusals.proofs.Scan.{or_true}
+use Rattle.positions.specs.Position.{point_at, configuration_at}
+use Rattle.positions.proofs.CheckedSizes.{checked_fits}
+use Rattle.steps.specs.Lines.{lines_of}
+use Rattle.simulation.proofs.NumberedPositions.{by_number}
 
 -- a stage above 0 and below another
 unfoldable pub lowers : ℕ → ℕ → Bool
@@ -42,23 +51,32 @@ unfoldable pub staged_in : Cell → Chapters → Measures → List ℕ → Point
 staged_in c rs zs stages p a =
     eqb (entry_in zs stages p a) 0
     || (not (eqb (kind_at rs p) 0)
-    && formed_pass c (recipe_at rs p) p.point (λ e. keeps_in rs zs stages p a (effect c (recipe_at rs p) p.point a e)))
+    && (eqb (lines_of (recipe_at rs p) p.point) 1
+    && formed_pass c (recipe_at rs p) p.point (λ e. keeps_in rs zs stages p a (effect c (recipe_at rs p) p.point a e))))
 
--- the whole list
+-- the whole list, chapter by chapter
 unfoldable pub are_stages_in : Cell → Chapters → Measures → List ℕ → Bool
-are_stages_in c rs zs stages = everywhere rs zs (staged_in c rs zs stages)
+are_stages_in c rs zs stages =
+    all_below (λ k. all_below (λ m. staged_in c rs zs stages (point_in k (point_at (zs k) m)) (configuration_at (zs k) m)) (zs k).positions) (length rs)
+
+-- the same with points of one line or of two
+unfoldable pub few_staged_in : Cell → Chapters → Measures → List ℕ → Point → Configuration → Bool
+few_staged_in c rs zs stages p a =
+    eqb (entry_in zs stages p a) 0
+    || (not (eqb (kind_at rs p) 0)
+    && few_formed_pass c (recipe_at rs p) p.point (λ e. keeps_in rs zs stages p a (effect c (recipe_at rs p) p.point a e)))
+
+unfoldable pub are_few_stages_in : Cell → Chapters → Measures → List ℕ → Bool
+are_few_stages_in c rs zs stages = everywhere rs zs (few_staged_in c rs zs stages)
 
 is_lower : (s t : ℕ) → lowers s t ≡ true → (0 < s) × (s < t)
 unfolding lowers
 is_lower s t e = (ltb-true 0 s (and_left (ltb 0 s) (ltb s t) e), ltb-true s t (and_right (ltb 0 s) (ltb s t) e))
 
-module _ (c : Cell) (rs : Chapters) (zs : Measures) (K : AllChecked c rs zs) (stages : List ℕ) (good : are_stages_in c rs zs stages ≡ true) where
+module _ (c : Cell) (rs : Chapters) (zs : Measures) (K : AllChecked c rs zs) (stages : List ℕ)
+    (staged : (p : Point) (a : Configuration) → PositionIn rs zs p a → few_staged_in c rs zs stages p a ≡ true) where
   abbrev stage : Point → Configuration → ℕ
   stage p a = entry_in zs stages p a
-
-  staged_at : (p : Point) (a : Configuration) → PositionIn rs zs p a → staged_in c rs zs stages p a ≡ true
-  unfolding are_stages_in
-  staged_at = at_position c rs zs K (staged_in c rs zs stages) good
 
   module _ (p : Point) (a : Configuration) (at : PositionIn rs zs p a) (high : 0 < stage p a) where
     none : stage p a ≡ 0 → ⊥
@@ -66,11 +84,11 @@ module _ (c : Cell) (rs : Chapters) (zs : Measures) (K : AllChecked c rs zs) (st
 
     parts :
         (not (eqb (kind_at rs p) 0)
-        && formed_pass c (recipe_at rs p) p.point (λ e. keeps_in rs zs stages p a (effect c (recipe_at rs p) p.point a e))) ≡ true
-    unfolding staged_in
+        && few_formed_pass c (recipe_at rs p) p.point (λ e. keeps_in rs zs stages p a (effect c (recipe_at rs p) p.point a e))) ≡ true
+    unfolding few_staged_in
     parts =
         ⊎_elim (λ (e : eqb (stage p a) 0 ≡ true). absurd (none (eqb-true _ 0 e))) (λ rest. rest)
-        (or_cases (eqb (stage p a) 0) _ (staged_at p a at))
+        (or_cases (eqb (stage p a) 0) _ (staged p a at))
 
     some : kind_at rs p ≡ 0 → ⊥
     some = eqb-false _ 0 (not-true _ (and_left _ _ parts))
@@ -78,7 +96,7 @@ module _ (c : Cell) (rs : Chapters) (zs : Measures) (K : AllChecked c rs zs) (st
     -- what an entry in the stated form does
     keeps : (e : ℕ) → is_formed c (recipe_at rs p) p.point e ≡ true → keeps_in rs zs stages p a (effect c (recipe_at rs p) p.point a e) ≡ true
     keeps =
-        formed_passes c (recipe_at rs p) p.point (λ e. keeps_in rs zs stages p a (effect c (recipe_at rs p) p.point a e))
+        few_formed_passes c (recipe_at rs p) p.point (λ e. keeps_in rs zs stages p a (effect c (recipe_at rs p) p.point a e))
         (and_right (not (eqb (kind_at rs p) 0)) _ parts)
 
     quiet : (e : ℕ) (b : Configuration) → effect c (recipe_at rs p) p.point a e ≡ silent b → (0 < stage p b) × (stage p b ≤ stage p a)
@@ -113,5 +131,49 @@ module _ (c : Cell) (rs : Chapters) (zs : Measures) (K : AllChecked c rs zs) (st
       }
 
   -- a position of a stage above 0 is lost
-  pub stages_lost_in : (p : Point) (a : Configuration) → PositionIn rs zs p a → 0 < stage p a → Lost (joined_machine c rs zs) p a
-  stages_lost_in p a at high = staged_lost (joined_laws c rs zs K) are_stages_lem p a at high
+  staged_lost_in : (p : Point) (a : Configuration) → PositionIn rs zs p a → 0 < stage p a → Lost (joined_machine c rs zs) p a
+  staged_lost_in p a at high = staged_lost (joined_laws c rs zs K) are_stages_lem p a at high
+
+-- so of a list that passes either test
+module _ (c : Cell) (rs : Chapters) (zs : Measures) (K : AllChecked c rs zs) (stages : List ℕ) (good : are_few_stages_in c rs zs stages ≡ true) where
+  pub few_stages_lost_in : (p : Point) (a : Configuration) → PositionIn rs zs p a → 0 < entry_in zs stages p a → Lost (joined_machine c rs zs) p a
+  unfolding are_few_stages_in
+  few_stages_lost_in = staged_lost_in c rs zs K stages (at_position c rs zs K (few_staged_in c rs zs stages) good)
+
+module _ (c : Cell) (rs : Chapters) (zs : Measures) (K : AllChecked c rs zs) (stages : List ℕ) (good : are_stages_in c rs zs stages ≡ true) where
+  staged_at : (p : Point) (a : Configuration) → PositionIn rs zs p a → staged_in c rs zs stages p a ≡ true
+  unfolding are_stages_in
+  staged_at p a at =
+      let k = p.chapter in
+      by_number (zs k) (checked_fits c (recipe_at rs p) (zs k) (checked_at c rs zs K p a at)) (λ q b. staged_in c rs zs stages (point_in k q) b ≡ true)
+      (λ m low.
+      all_at (λ m. staged_in c rs zs stages (point_in k (point_at (zs k) m)) (configuration_at (zs k) m)) (zs k).positions m
+      (all_at
+      (λ k. all_below (λ m. staged_in c rs zs stages (point_in k (point_at (zs k) m)) (configuration_at (zs k) m)) (zs k).positions)
+      (length rs) k good at.there)
+      low)
+      p.point a at.here
+
+  -- at points of one line both tests are one
+  staged_few : (p : Point) (a : Configuration) → staged_in c rs zs stages p a ≡ true → few_staged_in c rs zs stages p a ≡ true
+  unfolding staged_in few_staged_in
+  staged_few p a passes = ⊎_elim (λ (e : eqb (entry_in zs stages p a) 0 ≡ true). rw e) some (or_cases (eqb (entry_in zs stages p a) 0) _ passes)
+    where
+      test : ℕ → Bool
+      test e = keeps_in rs zs stages p a (effect c (recipe_at rs p) p.point a e)
+
+      some :
+          (not (eqb (kind_at rs p) 0) && (eqb (lines_of (recipe_at rs p) p.point) 1 && formed_pass c (recipe_at rs p) p.point test)) ≡ true
+          → (eqb (entry_in zs stages p a) 0
+          || (not (eqb (kind_at rs p) 0) && few_formed_pass c (recipe_at rs p) p.point test)) ≡ true
+      some rest =
+          let going : not (eqb (kind_at rs p) 0) ≡ true = and_left _ _ rest in
+          let one = eqb-true _ 1 (and_left _ _ (and_right (not (eqb (kind_at rs p) 0)) _ rest)) in
+          let formed = and_right (eqb (lines_of (recipe_at rs p) p.point) 1) _ (and_right (not (eqb (kind_at rs p) 0)) _ rest) in
+          let both : (not (eqb (kind_at rs p) 0) && few_formed_pass c (recipe_at rs p) p.point test) ≡ true =
+          rw (going, formed_few c (recipe_at rs p) p.point test one formed) in
+          or_true (eqb (entry_in zs stages p a) 0) _ both
+
+  -- a position of a stage above 0 is lost
+  pub stages_lost_in : (p : Point) (a : Configuration) → PositionIn rs zs p a → 0 < entry_in zs stages p a → Lost (joined_machine c rs zs) p a
+  stages_lost_in = staged_lost_in c rs zs K stages (λ p a at. staged_few p a (staged_at p a at))

@@ -1,11 +1,11 @@
--- A test of every entry that has the stated form at a point of one line or of two. Assumes nothing.
+-- A test of every entry that has the stated form at a point of one line, and at one of one line or of two. Assumes nothing.
 use mathlib.Core.Path.{◌≡◌}
 use mathlib.Core.Logic.{⊎_elim}
 use mathlib.Core.Bool.{Bool, true, cond, ◌&&◌, ◌||◌}
 use Prim.Native.Nat.{ℕ, ◌+◌, ◌*◌, ◌<◌}
 use native.Mathlib.Omega.{arith}
 use lib.Dec.{eqb}
-use borrow.Author.Tests.{eqb-true, ne_eqb}
+use borrow.Author.Tests.{eqb-true, eq-eqb, ne_eqb}
 use Rattle.refusals.specs.Search.{all_below}
 use Rattle.refusals.proofs.EveryBelow.{all_at}
 use Rattle.refusals.proofs.Verdicts.{and_left, and_right, or_cases}
@@ -23,6 +23,13 @@ pairs_pass c kind test = all_below (λ l. all_below (λ m. test (kind + l + 64 *
 -- internal work, transfers and carries, by the cell's lines
 unfoldable pub formed_pass : Cell → Recipe → ℕ → (ℕ → Bool) → Bool
 formed_pass c r p test =
+    all_below (λ l. test (16777216 + l)) c.count
+    && (all_below (λ l. all_below (λ m. test (33554432 + l + 64 * m)) c.count) c.count
+    && all_below (λ l. test (carry_entry c r p l)) c.count)
+
+-- the same at a point of one line or of two
+unfoldable pub few_formed_pass : Cell → Recipe → ℕ → (ℕ → Bool) → Bool
+few_formed_pass c r p test =
     (eqb (lines_of r p) 1 || eqb (lines_of r p) 2)
     && (all_below (λ l. test (16777216 + l)) c.count
     && (pairs_pass c 33554432 test
@@ -35,7 +42,7 @@ pair_passes c kind test all l m low less =
     all_at (λ m. test (kind + l + 64 * m)) c.count m
     (all_at (λ l. all_below (λ m. test (kind + l + 64 * m)) c.count) c.count l all low) less
 
-module _ (c : Cell) (r : Recipe) (p : ℕ) (test : ℕ → Bool) (all : formed_pass c r p test ≡ true) where
+module _ (c : Cell) (r : Recipe) (p : ℕ) (test : ℕ → Bool) (all : few_formed_pass c r p test ≡ true) where
   -- what is tested, part by part
   record Parts : Type 0 where
     few : (eqb (lines_of r p) 1 || eqb (lines_of r p) 2) ≡ true
@@ -44,7 +51,7 @@ module _ (c : Cell) (r : Recipe) (p : ℕ) (test : ℕ → Bool) (all : formed_p
     carries : cond (eqb (lines_of r p) 1) (all_below (λ l. test (carry_entry c r p l)) c.count) (pairs_pass c 50331648 test) ≡ true
 
   parts : Parts
-  unfolding formed_pass
+  unfolding few_formed_pass
   parts =
       record {
         few = search and_left;
@@ -81,5 +88,14 @@ module _ (c : Cell) (r : Recipe) (p : ℕ) (test : ℕ → Bool) (all : formed_p
             let tested : pairs_pass c 50331648 test ≡ true = rw (ne_eqb (lines_of r p) 1 other) at parts.carries in
             rw at.2 (pair_passes c 50331648 test tested (letter e 0) (letter e 1) at.0 at.1)
 
-    pub formed_passes : test e ≡ true
-    formed_passes = ⊎_elim internal (⊎_elim transfer carry) (formed_kind c r p e formed)
+    pub few_formed_passes : test e ≡ true
+    few_formed_passes = ⊎_elim internal (⊎_elim transfer carry) (formed_kind c r p e formed)
+
+module _ (c : Cell) (r : Recipe) (p : ℕ) (test : ℕ → Bool) where
+  -- at a point of one line both tests are one
+  pub formed_few : lines_of r p ≡ 1 → formed_pass c r p test ≡ true → few_formed_pass c r p test ≡ true
+  unfolding formed_pass few_formed_pass pairs_pass
+  formed_few one all = rw (eq-eqb (lines_of r p) 1 one) all
+
+  pub formed_passes : formed_pass c r p test ≡ true → lines_of r p ≡ 1 → (e : ℕ) → is_formed c r p e ≡ true → test e ≡ true
+  formed_passes all one e formed = few_formed_passes c r p test (formed_few one all) e formed

@@ -30,7 +30,7 @@ use Rattle.worked.specs.Gated.{gate_cell, gate_sizes, bench_behind, again_cell, 
 use Rattle.worked.specs.GatedPlans.{gate_table, gate_ranks, again_table, again_ranks, left_stages, stuck_stages}
 use Rattle.worked.proofs.Certificates.{closed_realisable, staged_unrealisable}
 use Rattle.worked.proofs.OneMoveOpen.{sole_in}
-use Rattle.worked.proofs.FormedEntries.{pairs_pass, formed_pass}
+use Rattle.worked.proofs.FormedEntries.{formed_pass}
 use Rattle.worked.proofs.ChapterCertificates.{sole_at}
 
 -- what is computed
@@ -70,7 +70,7 @@ unfolding is_of first_below any_below all_below count_below greatest_below tabul
     recipe.rule12 recipe.recipe_rules sum_below product_below state_count state_counts parts_in part_count joint_count sizes_for start
     state_number place_number position_of state_weight point_at state_at place_at configuration_at record_rules rule13 check_sizes first_line_of
     lines_of kind_of then_of else_of is_taken is_given entry_of rank_of has_entry leads_on closed_at is_closed stage_of no_more lower keeps_stage
-    stays_staged moves_staged carry_entry position_staged are_stages chapter_at pairs_pass formed_pass sole_at sole_in filled bench_cell bench_recipe bench_behind gate_cell
+    stays_staged moves_staged carry_entry position_staged are_stages chapter_at formed_pass sole_at sole_in filled bench_cell bench_recipe bench_behind gate_cell
     again_cell again_recipe gate_table gate_ranks again_table again_ranks left_stages stuck_stages is_loaded lane_starts out_starts may_do acts acts_on how_many port_fits is_step
     is_silent_step load keeps_limits none_overfull gate_among gate_of gated suits state_after receiver handed place_after after serves matches
     stands_at present free carries put_there placed parts_moved after_carry entry_kind letter unused lines_used carry_letters letters_used

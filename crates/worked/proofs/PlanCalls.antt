@@ -35,7 +35,7 @@ use Rattle.worked.proofs.Certificates.{entry_greatest}
 use Rattle.worked.proofs.LedRecipes.{led_recipes}
 use Rattle.worked.proofs.LentLengths.{check_passes, short_refused, short_untouched, call_accepts, call_refuses}
 use Rattle.worked.proofs.OneMoveOpen.{sole_in, sole_planned}
-use Rattle.worked.proofs.FormedEntries.{pairs_pass, formed_pass}
+use Rattle.worked.proofs.FormedEntries.{formed_pass}
 use Rattle.worked.proofs.ChapterCertificates.{sole_at}
 
 -- such a move of the bench example's table
@@ -54,7 +54,7 @@ record Sole : Type 0 where
 soles : Sole
 unfolding is_of first_below any_below all_below count_below greatest_below tabulate cell.greatest_resource cell.alike recipe.holds_part recipe.point_count
     sum_below product_below state_count state_counts parts_in part_count joint_count sizes_for state_number place_number position_of state_weight
-    point_at state_at place_at configuration_at first_line_of lines_of kind_of then_of else_of is_taken is_given chapter_at pairs_pass formed_pass sole_at sole_in carry_entry entry_of filled bench_cell
+    point_at state_at place_at configuration_at first_line_of lines_of kind_of then_of else_of is_taken is_given chapter_at formed_pass sole_at sole_in carry_entry entry_of filled bench_cell
     bench_recipe bench_entry bench_table dead_recipe end_recipe is_loaded lane_starts out_starts may_do acts acts_on how_many port_fits is_step is_silent_step load keeps_limits
     none_overfull gate_among gate_of gated suits state_after receiver handed place_after after serves matches stands_at present free carries put_there placed parts_moved
     after_carry entry_kind letter unused lines_used carry_letters letters_used names_gate is_line is_formed only step_of may_be_taken taken effect is_move opens leaves makes leads_to

@@ -34,8 +34,8 @@ use Rattle.planner.specs.Call.{check_plan, PlanCall, FixedCall}
 use Rattle.planner.proofs.Demands.{realisable_accepted}
 use Rattle.worked.proofs.FineChapters.{Fine, fine_checked, fine_passes}
 use Rattle.worked.proofs.EveryPosition.{everywhere, at_position}
-use Rattle.worked.proofs.FormedEntries.{formed_pass, formed_passes}
-use Rattle.worked.proofs.ChapterStages.{are_stages_in, stages_lost_in}
+use Rattle.worked.proofs.FormedEntries.{few_formed_pass, few_formed_passes}
+use Rattle.worked.proofs.ChapterStages.{are_few_stages_in, few_stages_lost_in}
 use Rattle.worked.proofs.ChapterCertificates.{rank_in, are_closed, tables_closed}
 
 -- the move f, by what it does, is no better than the entry: a carry into entries is as soon only where the entry carries too, a silent move
@@ -55,7 +55,7 @@ unfoldable pub soonest_at : Cell → Chapters → Measures → List ℕ → List
 soonest_at c rs zs table ranks p a =
     eqb (entry_in zs table p a) 0
     || (eqb (kind_at rs p) 0
-    || formed_pass c (recipe_at rs p) p.point (λ f. no_better rs zs table ranks p a f (effect c (recipe_at rs p) p.point a f)))
+    || few_formed_pass c (recipe_at rs p) p.point (λ f. no_better rs zs table ranks p a f (effect c (recipe_at rs p) p.point a f)))
 
 -- what has no entry has a stage, or is an earlier end that passes on to a stage
 unfoldable pub lost_at : Chapters → Measures → List ℕ → List ℕ → Point → Configuration → Bool
@@ -72,7 +72,7 @@ joint_at rs zs table p a =
 unfoldable pub is_shown : Cell → Chapters → Measures → List ℕ → List ℕ → List ℕ → Bool
 is_shown c rs zs table ranks stages =
     are_closed c rs zs table ranks
-    && (are_stages_in c rs zs stages
+    && (are_few_stages_in c rs zs stages
     && (everywhere rs zs (lost_at rs zs table stages)
     && (everywhere rs zs (joint_at rs zs table) && everywhere rs zs (soonest_at c rs zs table ranks))))
 
@@ -88,7 +88,7 @@ module _
     -- what the tests show, one by one
     record Passed : Type 0 where
       closed : are_closed c rs zs table ranks ≡ true
-      staged : are_stages_in c rs zs stages ≡ true
+      staged : are_few_stages_in c rs zs stages ≡ true
       lost : everywhere rs zs (lost_at rs zs table stages) ≡ true
       joints : everywhere rs zs (joint_at rs zs table) ≡ true
       soonest : everywhere rs zs (soonest_at c rs zs table ranks) ≡ true
@@ -111,8 +111,8 @@ module _
         otherwise (not (eqb (entry_in zs table p a) 0)) _ (at_position c rs zs K (lost_at rs zs table stages) passed.lost p a at)
         (rw (eq-eqb (entry_in zs table p a) 0 none)) in
         ⊎_elim
-        (λ high. stages_lost_in c rs zs K stages passed.staged p a at (ltb-true 0 _ high))
-        (λ high. beyond (stages_lost_in c rs zs K stages passed.staged (landing rs p) a (landing_position c rs zs K p a at) (ltb-true 0 _ high)))
+        (λ high. few_stages_lost_in c rs zs K stages passed.staged p a at (ltb-true 0 _ high))
+        (λ high. beyond (few_stages_lost_in c rs zs K stages passed.staged (landing rs p) a (landing_position c rs zs K p a at) (ltb-true 0 _ high)))
         (or_cases (ltb 0 (entry_in zs stages p a)) _ either)
 
     joints :
@@ -136,7 +136,7 @@ module _
           → no_better rs zs table ranks p a f (effect c (recipe_at rs p) p.point a f) ≡ true
       unfolding soonest_at
       no_better_lem =
-          formed_passes c (recipe_at rs p) p.point (λ f. no_better rs zs table ranks p a f (effect c (recipe_at rs p) p.point a f))
+          few_formed_passes c (recipe_at rs p) p.point (λ f. no_better rs zs table ranks p a f (effect c (recipe_at rs p) p.point a f))
           (otherwise (eqb (kind_at rs p) 0) _
           (otherwise (eqb (entry_in zs table p a) 0) _
           (at_position c rs zs K (soonest_at c rs zs table ranks) passed.soonest p a at) (ne_eqb (entry_in zs table p a) 0 some))

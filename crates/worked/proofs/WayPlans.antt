@@ -41,10 +41,10 @@ use Rattle.worked.specs.Installed.{single_recipe}
 use Rattle.worked.specs.Ways.{lost_at_once, either_cell, either_recipe, either_table, side_cell, side_table, side_ranks, longer_table, longer_ranks}
 use Rattle.worked.specs.Ways.{outcome_cell, outcome_recipe, under_test, outcome_table, ahead_cell, taken_recipe, ahead_chapters, alone_table, ahead_table, ahead_stages, ahead_ranks}
 use Rattle.worked.proofs.EveryPosition.{in_chapter, everywhere}
-use Rattle.worked.proofs.FormedEntries.{pairs_pass, formed_pass}
+use Rattle.worked.proofs.FormedEntries.{pairs_pass, few_formed_pass}
 use Rattle.worked.proofs.FineChapters.{Fine, fine_checked}
 use Rattle.worked.proofs.Certificates.{closed_keeps}
-use Rattle.worked.proofs.ChapterStages.{lowers, keeps_in, staged_in, are_stages_in}
+use Rattle.worked.proofs.ChapterStages.{lowers, keeps_in, few_staged_in, are_few_stages_in}
 use Rattle.worked.proofs.ChapterCertificates.{passes_at, closed_in, are_closed}
 use Rattle.worked.proofs.ShownTables.{no_better, soonest_at, lost_at, joint_at, is_shown, shown_planned, Leaves, leaves_shown, shown_fixed}
 
@@ -89,7 +89,7 @@ unfolding is_of first_below any_below all_below count_below greatest_below tabul
     letter unused lines_used carry_letters letters_used names_gate is_line is_formed only step_of may_be_taken taken effect is_move opens leaves makes leads_to cell.in_range cell.gap
     cell.has_no_line recipe.in_range recipe.has_unused farthest is_silent is_free line_verdict chapter_at is_earlier landing then_at
     else_at points_at sizes.parts_in sizes_in begins position_in entry_in rule24 rule24_joint chapter_rules in_turn chapters_rules record_rules rule13
-    leads line_leads leads_on chained is_reached rule22 pairs_pass formed_pass in_chapter everywhere lowers keeps_in staged_in are_stages_in passes_at
+    leads line_leads leads_on chained is_reached rule22 pairs_pass few_formed_pass in_chapter everywhere lowers keeps_in few_staged_in are_few_stages_in passes_at
     closed_in are_closed no_better soonest_at lost_at joint_at is_shown single_recipe lost_at_once either_cell either_recipe either_table side_cell side_table side_ranks
     longer_table longer_ranks outcome_cell outcome_recipe under_test outcome_table ahead_cell taken_recipe ahead_chapters alone_table ahead_table ahead_stages ahead_ranks
 computed =
