@@ -1,20 +1,23 @@
 -- The bench example's plan: its table is one, the stages show what is lost, and both are computed. Assumes nothing.
-use mathlib.Core.Path.{◌≡◌, refl, ap, subst, ◌∙◌, sym}
-use mathlib.Core.Bool.{Bool, true, false, not}
+use mathlib.Core.Path.{◌≡◌, refl, sym, ap, ◌∙◌, subst}
+use mathlib.Core.Bool.{Bool, true, false, not, ◌||◌}
 use mathlib.Core.List.{List, [], ◌∷◌}
-use Prim.Native.Nat.{ℕ, ◌<◌}
+use Prim.Native.Nat.{ℕ, suc, ◌<◌}
+use native.Mathlib.Decide.{ℕ_discrete}
 use native.Mathlib.Omega.{arith}
 use lib.ListN.{length, get_or}
-use lib.Dec.{eqb}
-use borrow.Author.Tests.{ne_eqb, eqb-true, eq-eqb}
+use lib.Dec.{eqb, ltb}
+use borrow.Author.Tests.{eq-eqb, eqb-true, ltb-true, ne_eqb}
 use Rattle.refusals.specs.declared.Verdict.TheVariants.{Accepted}
 use Rattle.refusals.specs.Search.{first_below, any_below, all_below, count_below, greatest_below, tabulate, is_of}
 use Rattle.refusals.specs.Verdict.{first_refusal, first_line, no_line, rule3, line_verdict}
-use Rattle.chapters.specs.Joined.{chapter_at, Point, first_point, kind_at, is_earlier, landing, then_at, else_at, Chapters, point_in}
-use Rattle.chapters.specs.Sizes as sizes
-use Rattle.chapters.specs.Sizes.{Measures, points_at, sizes_in, begins, position_in, entry_in}
+use Rattle.refusals.proofs.EveryBelow.{all_at}
+use Rattle.cell.specs.declared.Cell.{Cell}
+use Rattle.chapters.specs.Joined.{Chapters, chapter_at, Point, point_in, first_point, kind_at, is_earlier, landing, then_at, else_at}
+use Rattle.chapters.specs.Sizes.{Measures, sizes_in, entry_in, points_at, begins, position_in}
 use Rattle.chapters.specs.Checked.{AllChecked}
 use Rattle.chapters.proofs.OneChapter.{one_lands}
+use Rattle.run.specs.Book.{asks, opened, at_end, is_open}
 use Rattle.cell.specs.Rules as cell
 use Rattle.recipe.specs.Rules as recipe
 use Rattle.positions.specs.declared.Configuration.{Configuration}
@@ -23,6 +26,9 @@ use Rattle.positions.specs.Radix.{sum_below, product_below}
 use Rattle.positions.specs.Sizes.{state_count, state_counts, parts_in, part_count, joint_count, sizes_for, sizes_of, farthest}
 use Rattle.positions.specs.Position.{start, state_number, place_number, position_of, state_weight, point_at, state_at, place_at, configuration_at, entry_of}
 use Rattle.positions.specs.Rules.{record_rules, rule13, check_sizes, place_count, is_position, place_fits, state_fits}
+use Rattle.positions.specs.Checked.{Checked}
+use Rattle.positions.proofs.CheckedSizes.{checked_fits}
+use Rattle.positions.proofs.PositionNumbers.{position_lt}
 use Rattle.steps.specs.Lines.{first_line_of, lines_of, kind_of, then_of, else_of, is_taken, is_given}
 use Rattle.steps.specs.Limits.{load, keeps_limits, none_overfull}
 use Rattle.steps.specs.Gates.{gate_among, gate_of, gated}
@@ -33,26 +39,28 @@ use Rattle.steps.specs.Entry.{entry_kind, letter, unused, lines_used, carry_lett
 use Rattle.steps.specs.Effect.{taken, effect, is_move, opens, leaves, makes, leads_to}
 use Rattle.steps.proofs.StationLoads.{all_kept}
 use Rattle.steps.proofs.EntryForms.{carry_entry}
-use Rattle.simulation.specs.Simulation.{Set, Realisable, PositionIn, Greatest}
+use Rattle.simulation.specs.Simulation.{Position, PositionIn, Set, Greatest, Realisable}
 use Rattle.simulation.specs.Plan.{Planned, Fixed}
-use Rattle.simulation.proofs.JoinedMachine.{joined_starts}
-use Rattle.simulation.proofs.ClosedTableTest.{rank_of, has_entry, leads_on, closed_at, is_closed}
+use Rattle.simulation.proofs.Machine.{Lost}
+use Rattle.simulation.proofs.CellMachine.{machine_of}
+use Rattle.simulation.proofs.JoinedMachine.{joined_machine, joined_starts}
+use Rattle.simulation.proofs.ClosedTableTest.{rank_of, has_entry, leads_on, closed_at, is_closed, closed_table}
 use Rattle.simulation.proofs.StageTest.{stage_of, no_more, lower, keeps_stage, stays_staged, moves_staged, position_staged, are_stages}
-use Rattle.simulation.proofs.PlannedEntries.{same_number, promised_open}
+use Rattle.simulation.proofs.StageListSound.{stages_lost}
 use Rattle.simulation.proofs.JointIsSingle.{SingleGoesOn, SingleSimulation, within, is_within, single_joint}
+use Rattle.simulation.proofs.ClosedTableIsPlan.{planned}
 use Rattle.worked.specs.Moves.{filled, bench_cell, bench_recipe, bench_sizes, bench_measures, bench_entry, bench_table, bench_ranks}
 use Rattle.worked.specs.Plans.{bench_stages, dead_recipe, dead_stages, end_recipe}
-use Rattle.worked.proofs.SingleRecipes.{single_entries, single_entry, single_only, single_numbered, single_position}
-use Rattle.worked.proofs.SingleRecipes.{all_checked}
+use Rattle.worked.proofs.SingleRecipes.{single_entries, single_entry, single_numbered, single_position, single_only, single_checked, all_checked}
+use Rattle.worked.proofs.SingleRecipes.{all_checked, single_closed, single_lost}
 use Rattle.worked.proofs.Certificates.{staged_unrealisable}
+use Rattle.simulation.proofs.PlannedEntries.{promised_open, same_number}
 use Rattle.worked.proofs.EveryPosition.{in_chapter, everywhere}
 use Rattle.worked.proofs.FormedEntries.{pairs_pass, few_formed_pass}
 use Rattle.worked.proofs.ChapterStages.{lowers, keeps_in, few_staged_in, are_few_stages_in}
 use Rattle.worked.proofs.ChapterCertificates.{passes_at, closed_in, are_closed}
 use Rattle.worked.proofs.ShownTables.{no_better, soonest_at, lost_at, joint_at, is_shown, shown_planned, shown_fixed}
-use native.Mathlib.Decide.{ℕ_discrete}
-use Rattle.cell.specs.declared.Cell.{Cell}
-use Rattle.run.specs.Book.{asks, opened, at_end, is_open}
+use Rattle.chapters.specs.Sizes as sizes
 
 abbrev dead_sizes : Sizes
 dead_sizes = sizes_of bench_cell dead_recipe
@@ -70,6 +78,10 @@ pub record Computed : Type 0 where
   pub sized : check_sizes bench_cell bench_recipe ≡ Accepted
   pub positions : bench_sizes.positions ≡ 90
   pub closed : is_closed bench_cell bench_recipe bench_sizes bench_table bench_ranks ≡ true
+  staged : are_stages bench_cell bench_recipe bench_sizes bench_stages ≡ true
+  -- every position without an entry has a stage
+  rest : all_below (λ m. not (eqb (get_or bench_table m 0) 0) || ltb 0 (get_or bench_stages m 0)) 90 ≡ true
+  -- request 9: ranks and stages show that its entries are the fixed ones
   shown : is_shown bench_cell (bench_recipe ∷ []) bench_measures bench_table bench_ranks bench_stages ≡ true
   pub entries : length bench_table ≡ 90
   pub begun : entry_of bench_sizes bench_table 0 start ≡ 50331648
@@ -106,14 +118,15 @@ unfolding is_of first_below any_below all_below count_below greatest_below tabul
     bench_stages dead_recipe dead_stages end_recipe is_loaded lane_starts out_starts may_do acts acts_on how_many port_fits is_step is_silent_step load keeps_limits none_overfull gate_among gate_of gated suits
     state_after receiver handed place_after after serves matches stands_at present free carries put_there placed parts_moved after_carry entry_kind
     letter unused lines_used carry_letters letters_used names_gate is_line is_formed only step_of may_be_taken taken effect is_move opens leaves makes leads_to cell.in_range cell.gap
-    cell.has_no_line recipe.in_range recipe.has_unused farthest state_fits place_fits is_silent is_free line_verdict chapter_at is_earlier landing then_at
-    else_at points_at sizes.parts_in sizes_in begins position_in entry_in pairs_pass few_formed_pass in_chapter everywhere lowers keeps_in few_staged_in are_few_stages_in passes_at
-    closed_in are_closed no_better soonest_at lost_at joint_at is_shown
+    cell.has_no_line recipe.in_range recipe.has_unused farthest state_fits place_fits is_silent is_free line_verdict
+    chapter_at is_earlier landing then_at else_at points_at sizes.parts_in sizes_in begins position_in entry_in pairs_pass few_formed_pass in_chapter everywhere lowers keeps_in few_staged_in are_few_stages_in passes_at closed_in are_closed no_better soonest_at lost_at joint_at is_shown
 computed =
     record {
       sized = refl;
       positions = refl;
       closed = refl;
+      staged = refl;
+      rest = refl;
       shown = refl;
       entries = refl;
       begun = refl;
@@ -134,23 +147,53 @@ computed =
       unlimited = refl;
     }
 
-bench_checked : AllChecked bench_cell (bench_recipe ∷ []) bench_measures
-bench_checked = all_checked bench_cell bench_recipe computed.sized
+bench_checked : Checked bench_cell bench_recipe bench_sizes
+bench_checked = single_checked bench_cell bench_recipe computed.sized
+
+passes : (x y : Bool) → (not x || y) ≡ true → x ≡ true → y ≡ true
+passes true y e h = e
+passes false y e h = cc
+
+-- a position without an entry is lost
+zeros : (p : ℕ) (a : Configuration) → Position bench_sizes p a → entry_of bench_sizes bench_table p a ≡ 0
+    → Lost (machine_of bench_cell bench_recipe bench_sizes) p a
+unfolding entry_of stage_of
+zeros p a valid none =
+    let m : ℕ = position_of bench_sizes p a in
+    let low : m < bench_sizes.positions =
+    position_lt bench_sizes (checked_fits bench_cell bench_recipe bench_sizes bench_checked) p a valid.is_in_range in
+    let here : (not (eqb (get_or bench_table m 0) 0) || ltb 0 (get_or bench_stages m 0)) ≡ true =
+    all_at (λ n. not (eqb (get_or bench_table n 0) 0) || ltb 0 (get_or bench_stages n 0)) 90 m computed.rest (omega (arith, computed.positions)) in
+    let high : 0 < get_or bench_stages m 0 = ltb-true 0 _ (passes (eqb (get_or bench_table m 0) 0) _ here (eq-eqb _ 0 none)) in
+    stages_lost bench_cell bench_recipe bench_sizes bench_stages bench_checked computed.staged p a valid high
 
 -- the table is a plan: its 24 entries stand at the positions of the greatest simulation, and they keep every promise
 pub bench_planned : Planned bench_cell (bench_recipe ∷ []) bench_measures bench_table bench_table false
 bench_planned =
-    subst (λ (refused : Bool). Planned bench_cell (bench_recipe ∷ []) bench_measures bench_table bench_table refused)
-    (ne_eqb (entry_in bench_measures bench_table first_point start) 0
-    (λ (none : entry_in bench_measures bench_table first_point start ≡ 0).
-    omega (arith, single_entry bench_cell bench_recipe bench_table 0 start, computed.begun)))
-    (shown_planned bench_cell (bench_recipe ∷ []) bench_checked bench_table bench_ranks bench_stages computed.shown
-    (omega (arith, single_entries bench_cell bench_recipe, computed.positions, computed.entries)))
+    planned bench_cell (bench_recipe ∷ []) (all_checked bench_cell bench_recipe computed.sized) bench_table bench_table
+    (λ p a. rank_of bench_sizes bench_ranks p.point a) false
+    (omega (arith, single_entries bench_cell bench_recipe, computed.positions, computed.entries))
+    (single_closed bench_cell bench_recipe computed.sized bench_table (rank_of bench_sizes bench_ranks)
+    (closed_table bench_cell bench_recipe bench_sizes bench_table bench_ranks bench_checked computed.closed))
+    (single_only bench_cell bench_recipe
+    (λ (p : Point) (a : Configuration).
+    entry_in bench_measures bench_table p a ≡ 0 → Lost (joined_machine bench_cell (bench_recipe ∷ []) bench_measures) p a)
+    (λ p a valid none.
+    single_lost bench_cell bench_recipe computed.sized p a valid
+    (zeros p a valid (sym (single_entry bench_cell bench_recipe bench_table p a) ∙ none))))
+    (λ p a valid end (next : suc p.chapter < 1). absurd (omega arith))
+    (λ e zero. omega (arith, sym (single_entry bench_cell bench_recipe bench_table 0 start) ∙ zero, computed.begun))
+    (λ e. cc)
+    refl
+    (λ n high. refl)
+
+bench_all_checked : AllChecked bench_cell (bench_recipe ∷ []) bench_measures
+bench_all_checked = all_checked bench_cell bench_recipe computed.sized
 
 -- each entry begins a shortest way
 pub bench_fixed : Fixed bench_cell (bench_recipe ∷ []) bench_measures bench_table
 bench_fixed =
-    shown_fixed bench_cell (bench_recipe ∷ []) bench_checked bench_table bench_ranks bench_stages computed.shown
+    shown_fixed bench_cell (bench_recipe ∷ []) bench_all_checked bench_table bench_ranks bench_stages computed.shown
     (omega (arith, single_entries bench_cell bench_recipe, computed.positions, computed.entries))
 
 -- so it has the entries of any table of which both holds
@@ -162,7 +205,7 @@ pub bench_entries :
     → n < 90
     → get_or table n 0 ≡ get_or bench_table n 0
 bench_entries before table refused plan fixed n low =
-    same_number bench_cell (bench_recipe ∷ []) bench_measures bench_checked before table bench_table bench_table refused false plan bench_planned
+    same_number bench_cell (bench_recipe ∷ []) bench_measures bench_all_checked before table bench_table bench_table refused false plan bench_planned
     fixed bench_fixed n (omega (arith, single_entries bench_cell bench_recipe, computed.positions))
 
 -- ‡ "point 3 as `3,2,2,1,0,2,2` gives 15, the station having left state 1": no simulation holds the start
