@@ -1,5 +1,5 @@
 -- The bench example's plan: its table is one, the stages show what is lost, and both are computed. Assumes nothing.
-use mathlib.Core.Path.{◌≡◌, refl, sym, ap, ◌∙◌, subst}
+use mathlib.Core.Path.{◌≡◌, refl, sym, ap, ◌∙◌}
 use mathlib.Core.Bool.{Bool, true, false, not, ◌||◌}
 use mathlib.Core.List.{List, [], ◌∷◌}
 use Prim.Native.Nat.{ℕ, suc, ◌<◌}
@@ -7,7 +7,7 @@ use native.Mathlib.Decide.{ℕ_discrete}
 use native.Mathlib.Omega.{arith}
 use lib.ListN.{length, get_or}
 use lib.Dec.{eqb, ltb}
-use borrow.Author.Tests.{eq-eqb, eqb-true, ltb-true, ne_eqb}
+use borrow.Author.Tests.{eq-eqb, eqb-true, ltb-true}
 use Rattle.refusals.specs.declared.Verdict.TheVariants.{Accepted}
 use Rattle.refusals.specs.Search.{first_below, any_below, all_below, count_below, greatest_below, tabulate, is_of}
 use Rattle.refusals.specs.Verdict.{first_refusal, first_line, no_line, rule3, line_verdict}
@@ -59,7 +59,7 @@ use Rattle.worked.proofs.EveryPosition.{in_chapter, everywhere}
 use Rattle.worked.proofs.FormedEntries.{pairs_pass, few_formed_pass}
 use Rattle.worked.proofs.ChapterStages.{lowers, keeps_in, few_staged_in, are_few_stages_in}
 use Rattle.worked.proofs.ChapterCertificates.{passes_at, closed_in, are_closed}
-use Rattle.worked.proofs.ShownTables.{no_better, soonest_at, lost_at, joint_at, is_shown, shown_planned, shown_fixed}
+use Rattle.worked.proofs.ShownTables.{no_better, soonest_at, lost_at, joint_at, is_shown, shown_fixed}
 use Rattle.chapters.specs.Sizes as sizes
 
 abbrev dead_sizes : Sizes

@@ -20,35 +20,40 @@ use Rattle.steps.specs.Effect.{opens}
 use Rattle.steps.proofs.OpenByKind.{open_end}
 use Rattle.chapters.specs.Joined.{Chapters, Point, point_in, recipe_at, kind_at}
 use Rattle.chapters.specs.Sizes.{begins, entry_in}
-use Rattle.chapters.specs.Rules.{record_rules, rule14, is_position_in, rule16}
+use Rattle.chapters.specs.Rules.{record_rules, rule14, rule14_scratch, is_position_in, rule16}
 use Rattle.chapters.specs.Checked.{AllChecked}
 use Rattle.chapters.proofs.AcceptedChapters.{rules_of}
 use Rattle.run.specs.Calls.{run_at, table_rules, entry_rules, rule17, rule18, rule19, move_rules, report_rules, next_move, next_run, report_of}
 use Rattle.simulation.specs.Simulation.{PositionIn, Greatest, Realisable}
 use Rattle.simulation.specs.Plan.{Planned}
-use Rattle.planner.specs.Call.{check_plan, PlanCall}
+use Rattle.planner.specs.Call.{lent_rules, check_plan, PlanCall}
 use Rattle.planner.proofs.Demands.{realisable_accepted, unrealisable_refused}
 use Rattle.worked.specs.Moves.{bench_cell}
 use Rattle.worked.specs.Chaptered.{whole, cut, first_alone, second_alone, twice, at_first, at_second, tested}
 use Rattle.worked.specs.ChapteredPlans.{whole_table, cut_table}
 use Rattle.simulation.proofs.PlannedEntries.{plan_opens, lost_planned}
 use Rattle.worked.proofs.ChapterCertificates.{sole_planned}
-use Rattle.worked.proofs.FineChapters.{Fine, fine_checked, fine_passes}
-use Rattle.worked.proofs.ChapterPlans.{bench_in, Passed, Ended, Leads, either, computed, whole_holds, cut_holds}
+use Rattle.worked.proofs.ChapterPlans.{bench_in, Fine, fine_checked, Passed, Ended, Leads, either, computed, whole_holds, cut_holds}
 use Rattle.worked.proofs.ChapterPlans.{whole_realisable, cut_realisable, first_realisable, second_unrealisable, twice_unrealisable, joint_lacks}
 
 module _
-    (rs : Chapters) (entries bytes : ℕ) (fine : Fine bench_cell rs entries bytes)
+    (rs : Chapters) (entries bytes : ℕ) (fine : Fine rs entries bytes)
     (table scratch table' scratch' : List ℕ) (verdict : Verdict)
     (call : PlanCall bench_cell rs table scratch table' scratch' verdict)
     (long : entries ≤ length table) (wide : bytes ≤ length scratch)
   where
     checked : AllChecked bench_cell rs (bench_in rs)
-    checked = fine_checked bench_cell rs entries bytes fine
+    checked = fine_checked rs entries bytes fine
 
     -- nothing that is lent is too short
     passes : check_plan bench_cell rs (length table) (length scratch) ≡ Accepted
-    passes = fine_passes bench_cell rs entries bytes fine (length table) (length scratch) long wide
+    unfolding check_plan lent_rules rule14 rule14_scratch
+    passes =
+        sym
+        (part_accepts (record_rules true bench_cell rs) (lent_rules (bench_in rs) (length rs) (length table) (length scratch)) refl fine.records
+        (accepts _ refl fine.few
+        (accepts _ refl (no_line_kept TooShort _ (le-ltb (length table) (begins (bench_in rs) (length rs)) (omega (arith, fine.all))))
+        (decides (sym (no_line_kept TooShort _ (le-ltb (length scratch) _ (omega (arith, fine.most)))))))))
 
     plan : Planned bench_cell rs (bench_in rs) table table' call.refused
     plan = call.planned passes
@@ -240,7 +245,7 @@ module _ (table scratch table' scratch' : List ℕ) (verdict : Verdict) where
     pub joint_entry : entry_in (bench_in twice) table' (point_in 0 1) at_first ≡ 0
     joint_entry =
         let next : entry_in (bench_in twice) table' (point_in 1 0) at_first ≡ 0 =
-        lost_planned bench_cell twice (bench_in twice) (fine_checked bench_cell twice 72 5 computed.twice_fine) table table' call.refused twice_planned
+        lost_planned bench_cell twice (bench_in twice) (fine_checked twice 72 5 computed.twice_fine) table table' call.refused twice_planned
         (point_in 1 0) at_first computed.joint_next joint_lacks in
         twice_planned.joint_entry (point_in 0 1) at_first computed.joint computed.joint_end computed.joint_next.there
         ∙ ap (λ (e : ℕ). cond (eqb e 0) 0 67108864) next

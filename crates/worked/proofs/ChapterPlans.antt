@@ -2,9 +2,11 @@
 use mathlib.Core.Path.{◌≡◌, refl}
 use mathlib.Core.Bool.{Bool, true, false, cond}
 use mathlib.Core.List.{List}
-use Prim.Native.Nat.{ℕ}
+use Prim.Native.Nat.{ℕ, ◌+◌, ◌/◌}
 use native.Mathlib.Omega.{arith}
+use lib.ListN.{length}
 use lib.Dec.{eqb}
+use Rattle.refusals.specs.declared.Verdict.TheVariants.{Accepted}
 use Rattle.refusals.specs.Search.{first_below, any_below, all_below, count_below, greatest_below, tabulate, is_of}
 use Rattle.refusals.specs.Verdict.{first_refusal, first_line, no_line, rule3, line_verdict}
 use Rattle.cell.specs.Rules as cell
@@ -29,6 +31,7 @@ use Rattle.chapters.specs.Joined.{Chapters, chapter_at, Point, point_in, first_p
 use Rattle.chapters.specs.Sizes.{points_at, parts_in, Measures, sizes_in, begins, position_in, entry_in}
 use Rattle.chapters.specs.Rules.{rule24, rule24_joint, chapter_rules, in_turn, chapters_rules, record_rules, rule13}
 use Rattle.chapters.specs.Checked.{AllChecked}
+use Rattle.chapters.proofs.AcceptedChapters.{all_checked}
 use Rattle.run.specs.Calls.{next_point}
 use Rattle.simulation.specs.Simulation.{PositionIn, Greatest, Realisable}
 use Rattle.simulation.proofs.JoinedMachine.{joined_starts}
@@ -37,13 +40,19 @@ use Rattle.worked.specs.Moves.{filled, bench_cell}
 use Rattle.worked.specs.Chaptered.{whole_recipe, cut_first, cut_second, whole, cut, first_alone, second_alone, twice, at_first, at_second, tested}
 use Rattle.worked.specs.ChapteredPlans.{whole_table, whole_ranks, cut_table, cut_ranks, first_table, first_ranks, second_stages, twice_stages}
 use Rattle.worked.proofs.FormedEntries.{formed_pass}
-use Rattle.worked.proofs.FineChapters.{Fine, fine_checked}
 use Rattle.worked.proofs.ChapterStages.{lowers, keeps_in, staged_in, are_stages_in}
 use Rattle.worked.proofs.ChapterCertificates.{passes_at, closed_in, are_closed, sole_at, entry_greatest, closed_realisable, staged_never}
 
 -- the sizes of chapters over the bench cell
 abbrev pub bench_in : Chapters → Measures
 bench_in rs = sizes_in bench_cell rs
+
+-- chapters that pass the rules before 14, with so many entries and scratch bytes
+pub record Fine (rs : Chapters) (entries bytes : ℕ) : Type 0 where
+  pub records : first_refusal (record_rules true bench_cell rs) ≡ Accepted
+  pub few : rule13 (bench_in rs) (length rs) ≡ Accepted
+  pub all : begins (bench_in rs) (length rs) ≡ entries
+  pub most : (greatest_below (λ k. (bench_in rs k).positions) (length rs) + 7) / 8 ≡ bytes
 
 -- a position at which the table shown has the entry x, and no other move is open
 pub record Passed (rs : Chapters) (shown : List ℕ) (p : Point) (a : Configuration) (x : ℕ) : Type 0 where
@@ -109,11 +118,11 @@ pub record CutLeads : Type 0 where
   pub bad_out : LeadsOn cut (point_in 1 2) tested 50331652 (point_in 1 3) start
 
 pub record Computed : Type 0 where
-  pub whole_fine : Fine bench_cell whole 90 12
-  pub cut_fine : Fine bench_cell cut 108 9
-  pub first_fine : Fine bench_cell first_alone 36 5
-  pub second_fine : Fine bench_cell second_alone 72 9
-  pub twice_fine : Fine bench_cell twice 72 5
+  pub whole_fine : Fine whole 90 12
+  pub cut_fine : Fine cut 108 9
+  pub first_fine : Fine first_alone 36 5
+  pub second_fine : Fine second_alone 72 9
+  pub twice_fine : Fine twice 72 5
   whole_closed : are_closed bench_cell whole (bench_in whole) whole_table whole_ranks ≡ true
   cut_closed : are_closed bench_cell cut (bench_in cut) cut_table cut_ranks ≡ true
   first_closed : are_closed bench_cell first_alone (bench_in first_alone) first_table first_ranks ≡ true
@@ -205,14 +214,18 @@ computed =
       joint_stage = refl;
     }
 
+-- what passes the rules before 14 is checked
+pub fine_checked : (rs : Chapters) (entries bytes : ℕ) → Fine rs entries bytes → AllChecked bench_cell rs (bench_in rs)
+fine_checked rs entries bytes fine = all_checked true bench_cell rs fine.records fine.few
+
 -- the whole and the cut, at each position at which the table shown has an entry, and the first chapter alone
 pub whole_holds : (p : Point) (a : Configuration) → PositionIn whole (bench_in whole) p a → (entry_in (bench_in whole) whole_table p a ≡ 0 → ⊥)
     → Greatest bench_cell whole (bench_in whole) p a
-whole_holds = entry_greatest bench_cell whole (bench_in whole) (fine_checked bench_cell whole 90 12 computed.whole_fine) whole_table whole_ranks computed.whole_closed
+whole_holds = entry_greatest bench_cell whole (bench_in whole) (fine_checked whole 90 12 computed.whole_fine) whole_table whole_ranks computed.whole_closed
 
 pub cut_holds : (p : Point) (a : Configuration) → PositionIn cut (bench_in cut) p a → (entry_in (bench_in cut) cut_table p a ≡ 0 → ⊥)
     → Greatest bench_cell cut (bench_in cut) p a
-cut_holds = entry_greatest bench_cell cut (bench_in cut) (fine_checked bench_cell cut 108 9 computed.cut_fine) cut_table cut_ranks computed.cut_closed
+cut_holds = entry_greatest bench_cell cut (bench_in cut) (fine_checked cut 108 9 computed.cut_fine) cut_table cut_ranks computed.cut_closed
 
 pub whole_realisable : Realisable bench_cell whole
 whole_realisable =
@@ -226,19 +239,19 @@ cut_realisable =
 
 pub first_realisable : Realisable bench_cell first_alone
 first_realisable =
-    closed_realisable bench_cell first_alone (bench_in first_alone) (fine_checked bench_cell first_alone 36 5 computed.first_fine) first_table first_ranks
+    closed_realisable bench_cell first_alone (bench_in first_alone) (fine_checked first_alone 36 5 computed.first_fine) first_table first_ranks
     computed.first_closed (λ none. omega (arith, computed.first_begun, none))
 
 -- the second alone
 pub second_unrealisable : Realisable bench_cell second_alone → ⊥
 second_unrealisable =
-    let checked = fine_checked bench_cell second_alone 72 9 computed.second_fine in
+    let checked = fine_checked second_alone 72 9 computed.second_fine in
     staged_never bench_cell second_alone (bench_in second_alone) checked second_stages computed.second_staged first_point start
     (joined_starts bench_cell second_alone (bench_in second_alone) checked) (omega (arith, computed.second_start))
 
 -- the first twice, and where its first chapter's end passes on with the part at station 0
 twice_checked : AllChecked bench_cell twice (bench_in twice)
-twice_checked = fine_checked bench_cell twice 72 5 computed.twice_fine
+twice_checked = fine_checked twice 72 5 computed.twice_fine
 
 pub twice_unrealisable : Realisable bench_cell twice → ⊥
 twice_unrealisable =

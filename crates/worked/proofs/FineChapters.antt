@@ -20,21 +20,21 @@ use Rattle.chapters.proofs.AcceptedChapters.{all_checked}
 use Rattle.planner.specs.Call.{lent_rules, check_plan}
 
 -- with so many entries and scratch bytes
-pub record Fine (c : Cell) (rs : Chapters) (entries bytes : ℕ) : Type 0 where
+pub record FineIn (c : Cell) (rs : Chapters) (entries bytes : ℕ) : Type 0 where
   pub records : first_refusal (record_rules true c rs) ≡ Accepted
   pub few : rule13 (sizes_in c rs) (length rs) ≡ Accepted
   pub all : begins (sizes_in c rs) (length rs) ≡ entries
   pub most : (greatest_below (λ k. (sizes_in c rs k).positions) (length rs) + 7) / 8 ≡ bytes
 
-module _ (c : Cell) (rs : Chapters) (entries bytes : ℕ) (fine : Fine c rs entries bytes) where
+module _ (c : Cell) (rs : Chapters) (entries bytes : ℕ) (fine : FineIn c rs entries bytes) where
   -- they are checked
-  pub fine_checked : AllChecked c rs (sizes_in c rs)
-  fine_checked = all_checked true c rs fine.records fine.few
+  pub fine_in_checked : AllChecked c rs (sizes_in c rs)
+  fine_in_checked = all_checked true c rs fine.records fine.few
 
   -- and pass the rules before 15 with a table and a scratch of these lengths
-  pub fine_passes : (table scratch : ℕ) → entries ≤ table → bytes ≤ scratch → check_plan c rs table scratch ≡ Accepted
+  pub fine_in_passes : (table scratch : ℕ) → entries ≤ table → bytes ≤ scratch → check_plan c rs table scratch ≡ Accepted
   unfolding check_plan lent_rules rule14 rule14_scratch
-  fine_passes table scratch long wide =
+  fine_in_passes table scratch long wide =
       sym
       (part_accepts (record_rules true c rs) (lent_rules (sizes_in c rs) (length rs) table scratch) refl fine.records
       (accepts _ refl fine.few

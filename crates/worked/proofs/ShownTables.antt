@@ -32,7 +32,7 @@ use Rattle.simulation.proofs.ClosedTableIsPlan.{planned}
 use Rattle.simulation.proofs.PlannedEntries.{same_number}
 use Rattle.planner.specs.Call.{check_plan, PlanCall, FixedCall}
 use Rattle.planner.proofs.Demands.{realisable_accepted}
-use Rattle.worked.proofs.FineChapters.{Fine, fine_checked, fine_passes}
+use Rattle.worked.proofs.FineChapters.{FineIn, fine_in_checked, fine_in_passes}
 use Rattle.worked.proofs.EveryPosition.{everywhere, at_position}
 use Rattle.worked.proofs.FormedEntries.{few_formed_pass, few_formed_passes}
 use Rattle.worked.proofs.ChapterStages.{are_few_stages_in, few_stages_lost_in}
@@ -228,7 +228,7 @@ Leaves c rs entries bytes shown =
 -- so do all on a table that passes the tests and has an entry at the start
 pub leaves_shown :
     (c : Cell) (rs : Chapters) (entries bytes : ℕ)
-    → Fine c rs entries bytes
+    → FineIn c rs entries bytes
     → (shown ranks stages : List ℕ)
     → is_shown c rs (sizes_in c rs) shown ranks stages ≡ true
     → length shown ≡ entries
@@ -238,10 +238,10 @@ leaves_shown c rs entries bytes fine shown ranks stages good enough begun table 
     (realisable_accepted c rs table scratch table' scratch' verdict call passes (plan.accepted_holds begun), λ n low. same n (omega (arith, fine.all)))
   where
     K : AllChecked c rs (sizes_in c rs)
-    K = fine_checked c rs entries bytes fine
+    K = fine_in_checked c rs entries bytes fine
 
     passes : check_plan c rs (length table) (length scratch) ≡ Accepted
-    passes = fine_passes c rs entries bytes fine (length table) (length scratch) long wide
+    passes = fine_in_passes c rs entries bytes fine (length table) (length scratch) long wide
 
     plan : Planned c rs (sizes_in c rs) shown shown (eqb (entry_in (sizes_in c rs) shown first_point start) 0)
     plan = shown_planned c rs K shown ranks stages good (omega (arith, fine.all))

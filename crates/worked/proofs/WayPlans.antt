@@ -42,7 +42,7 @@ use Rattle.worked.specs.Ways.{lost_at_once, either_cell, either_recipe, either_t
 use Rattle.worked.specs.Ways.{outcome_cell, outcome_recipe, under_test, outcome_table, ahead_cell, taken_recipe, ahead_chapters, alone_table, ahead_table, ahead_stages, ahead_ranks}
 use Rattle.worked.proofs.EveryPosition.{in_chapter, everywhere}
 use Rattle.worked.proofs.FormedEntries.{pairs_pass, few_formed_pass}
-use Rattle.worked.proofs.FineChapters.{Fine, fine_checked}
+use Rattle.worked.proofs.FineChapters.{FineIn, fine_in_checked}
 use Rattle.worked.proofs.Certificates.{closed_keeps}
 use Rattle.worked.proofs.ChapterStages.{lowers, keeps_in, few_staged_in, are_few_stages_in}
 use Rattle.worked.proofs.ChapterCertificates.{passes_at, closed_in, are_closed}
@@ -50,7 +50,7 @@ use Rattle.worked.proofs.ShownTables.{no_better, soonest_at, lost_at, joint_at, 
 
 -- chapters with a table that passes the tests
 record Shows (c : Cell) (rs : Chapters) (entries bytes : ℕ) (table ranks stages : List ℕ) : Type 0 where
-  fine : Fine c rs entries bytes
+  fine : FineIn c rs entries bytes
   shown : is_shown c rs (sizes_in c rs) table ranks stages ≡ true
   enough : length table ≡ entries
   begun : eqb (entry_in (sizes_in c rs) table first_point start) 0 ≡ false
@@ -148,7 +148,7 @@ pub longer_not :
     → ⊥
 longer_not before refused plan fixed =
     let S = computed.side in
-    let K = fine_checked side_cell (single_recipe 1 ∷ []) 48 6 S.fine in
+    let K = fine_in_checked side_cell (single_recipe 1 ∷ []) 48 6 S.fine in
     let shown = shown_planned side_cell (single_recipe 1 ∷ []) K side_table side_ranks (lost_at_once side_table 48) S.shown
     (omega (arith, S.fine.all, S.enough)) in
     let shown_ways = shown_fixed side_cell (single_recipe 1 ∷ []) K side_table side_ranks (lost_at_once side_table 48) S.shown
