@@ -49,12 +49,11 @@ use Rattle.simulation.proofs.StageTest.{stage_of, no_more, lower, keeps_stage, s
 use Rattle.simulation.proofs.StageListSound.{stages_lost}
 use Rattle.simulation.proofs.JointIsSingle.{SingleGoesOn, SingleSimulation, within, is_within, single_joint}
 use Rattle.simulation.proofs.ClosedTableIsPlan.{planned}
+use Rattle.simulation.proofs.PlannedEntries.{promised_open, same_number}
 use Rattle.worked.specs.Moves.{filled, bench_cell, bench_recipe, bench_sizes, bench_measures, bench_entry, bench_table, bench_ranks}
 use Rattle.worked.specs.Plans.{bench_stages, dead_recipe, dead_stages, end_recipe}
-use Rattle.worked.proofs.SingleRecipes.{single_entries, single_entry, single_numbered, single_position, single_only, single_checked, all_checked}
-use Rattle.worked.proofs.SingleRecipes.{all_checked, single_closed, single_lost}
+use Rattle.worked.proofs.SingleRecipes.{single_entries, single_entry, single_numbered, single_position, single_only, single_checked, all_checked, single_closed, single_lost}
 use Rattle.worked.proofs.Certificates.{staged_unrealisable}
-use Rattle.simulation.proofs.PlannedEntries.{promised_open, same_number}
 use Rattle.worked.proofs.EveryPosition.{in_chapter, everywhere}
 use Rattle.worked.proofs.FormedEntries.{pairs_pass, few_formed_pass}
 use Rattle.worked.proofs.ChapterStages.{lowers, keeps_in, few_staged_in, are_few_stages_in}

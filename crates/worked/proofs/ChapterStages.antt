@@ -1,18 +1,24 @@
 -- Stages over the joined recipe: a number for each position of its chapters, and the test of such a list that the checker computes. At
 -- a position of a stage above 0 no silent move raises the stage or ends it, and every carry has an outcome that lowers it where it
--- lands. Such positions are lost. For chapters of one line to a
--- point, and for those of one or two. Assumes nothing.
+-- lands. Such positions are lost. For chapters of one line to a point, and for those of one or two. Assumes nothing.
 use mathlib.Core.Path.{◌≡◌, sym, ap, ◌∙◌}
 use mathlib.Core.Logic.{⊎_elim}
 use mathlib.Core.Bool.{Bool, true, false, not, ◌&&◌, ◌||◌}
 use mathlib.Core.List.{List}
 use Prim.Native.Nat.{ℕ, ◌<◌, ◌≤◌}
 use native.Mathlib.Omega.{arith}
+use lib.ListN.{length}
 use lib.Dec.{eqb, ltb, leb}
 use borrow.Author.Tests.{eqb-true, eqb-false, ltb-true, leb-true, not-true}
+use Rattle.refusals.specs.Search.{all_below}
+use Rattle.refusals.proofs.EveryBelow.{all_at}
+use Rattle.refusals.proofs.Scan.{or_true}
 use Rattle.refusals.proofs.Verdicts.{and_left, and_right, or_cases}
 use Rattle.cell.specs.declared.Cell.{Cell}
 use Rattle.positions.specs.declared.Configuration.{Configuration}
+use Rattle.positions.specs.Position.{point_at, configuration_at}
+use Rattle.positions.proofs.CheckedSizes.{checked_fits}
+use Rattle.steps.specs.Lines.{lines_of}
 use Rattle.steps.specs.Entry.{is_formed}
 use Rattle.steps.specs.Effect.{Effect, shut, silent, carried, ended, effect}
 use Rattle.steps.proofs.Effects.{read_silent, read_carried}
@@ -22,17 +28,10 @@ use Rattle.chapters.specs.Checked.{AllChecked}
 use Rattle.simulation.specs.Simulation.{PositionIn}
 use Rattle.simulation.proofs.Machine.{goes, Lost}
 use Rattle.simulation.proofs.JoinedMachine.{kind_on, joined_machine, finish_end, lands_then, lands_else, joined_laws, checked_at}
+use Rattle.simulation.proofs.NumberedPositions.{by_number}
 use Rattle.simulation.proofs.Stages.{Falls, Stages, staged_lost}
 use Rattle.worked.proofs.EveryPosition.{everywhere, at_position}
 use Rattle.worked.proofs.FormedEntries.{formed_pass, few_formed_pass, formed_few, few_formed_passes}
-use lib.ListN.{length}
-use Rattle.refusals.specs.Search.{all_below}
-use Rattle.refusals.proofs.EveryBelow.{all_at}
-use Rattle.refusals.proofs.Scan.{or_true}
-use Rattle.positions.specs.Position.{point_at, configuration_at}
-use Rattle.positions.proofs.CheckedSizes.{checked_fits}
-use Rattle.steps.specs.Lines.{lines_of}
-use Rattle.simulation.proofs.NumberedPositions.{by_number}
 
 -- a stage above 0 and below another
 unfoldable pub lowers : ℕ → ℕ → Bool
