@@ -80,7 +80,7 @@ pub record Computed : Type 0 where
   staged : are_stages bench_cell bench_recipe bench_sizes bench_stages ≡ true
   -- every position without an entry has a stage
   rest : all_below (λ m. not (eqb (get_or bench_table m 0) 0) || ltb 0 (get_or bench_stages m 0)) 90 ≡ true
-  -- request 9: ranks and stages show that its entries are the fixed ones
+  -- ranks and stages show that its entries are the fixed ones
   shown : is_shown bench_cell (bench_recipe ∷ []) bench_measures bench_table bench_ranks bench_stages ≡ true
   pub entries : length bench_table ≡ 90
   pub begun : entry_of bench_sizes bench_table 0 start ≡ 50331648

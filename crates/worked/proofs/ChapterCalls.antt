@@ -20,19 +20,20 @@ use Rattle.steps.specs.Effect.{opens}
 use Rattle.steps.proofs.OpenByKind.{open_end}
 use Rattle.chapters.specs.Joined.{Chapters, Point, point_in, recipe_at, kind_at}
 use Rattle.chapters.specs.Sizes.{begins, entry_in}
-use Rattle.chapters.specs.Rules.{record_rules, rule14, rule14_scratch, is_position_in, rule16}
+use Rattle.chapters.specs.Rules.{record_rules, rule14, is_position_in, rule16}
 use Rattle.chapters.specs.Checked.{AllChecked}
 use Rattle.chapters.proofs.AcceptedChapters.{rules_of}
 use Rattle.run.specs.Calls.{run_at, table_rules, entry_rules, rule17, rule18, rule19, move_rules, report_rules, next_move, next_run, report_of}
 use Rattle.simulation.specs.Simulation.{PositionIn, Greatest, Realisable}
 use Rattle.simulation.specs.Plan.{Planned}
-use Rattle.planner.specs.Call.{lent_rules, check_plan, PlanCall}
+use Rattle.planner.specs.Call.{check_plan, PlanCall}
 use Rattle.planner.proofs.Demands.{realisable_accepted, unrealisable_refused}
 use Rattle.worked.specs.Moves.{bench_cell}
 use Rattle.worked.specs.Chaptered.{whole, cut, first_alone, second_alone, twice, at_first, at_second, tested}
 use Rattle.worked.specs.ChapteredPlans.{whole_table, cut_table}
 use Rattle.simulation.proofs.PlannedEntries.{plan_opens, lost_planned}
 use Rattle.worked.proofs.ChapterCertificates.{sole_planned}
+use Rattle.worked.proofs.FineChapters.{fine_in_passes}
 use Rattle.worked.proofs.ChapterPlans.{bench_in, Fine, fine_checked, Passed, Ended, Leads, either, computed, whole_holds, cut_holds}
 use Rattle.worked.proofs.ChapterPlans.{whole_realisable, cut_realisable, first_realisable, second_unrealisable, twice_unrealisable, joint_lacks}
 
@@ -47,13 +48,9 @@ module _
 
     -- nothing that is lent is too short
     passes : check_plan bench_cell rs (length table) (length scratch) ≡ Accepted
-    unfolding check_plan lent_rules rule14 rule14_scratch
     passes =
-        sym
-        (part_accepts (record_rules true bench_cell rs) (lent_rules (bench_in rs) (length rs) (length table) (length scratch)) refl fine.records
-        (accepts _ refl fine.few
-        (accepts _ refl (no_line_kept TooShort _ (le-ltb (length table) (begins (bench_in rs) (length rs)) (omega (arith, fine.all))))
-        (decides (sym (no_line_kept TooShort _ (le-ltb (length scratch) _ (omega (arith, fine.most)))))))))
+        fine_in_passes bench_cell rs entries bytes (record { records = fine.records; few = fine.few; all = fine.all; most = fine.most })
+        (length table) (length scratch) long wide
 
     plan : Planned bench_cell rs (bench_in rs) table table' call.refused
     plan = call.planned passes

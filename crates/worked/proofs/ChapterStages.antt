@@ -11,13 +11,11 @@ use lib.ListN.{length}
 use lib.Dec.{eqb, ltb, leb}
 use borrow.Author.Tests.{eqb-true, eqb-false, ltb-true, leb-true, not-true}
 use Rattle.refusals.specs.Search.{all_below}
-use Rattle.refusals.proofs.EveryBelow.{all_at}
 use Rattle.refusals.proofs.Scan.{or_true}
 use Rattle.refusals.proofs.Verdicts.{and_left, and_right, or_cases}
 use Rattle.cell.specs.declared.Cell.{Cell}
 use Rattle.positions.specs.declared.Configuration.{Configuration}
 use Rattle.positions.specs.Position.{point_at, configuration_at}
-use Rattle.positions.proofs.CheckedSizes.{checked_fits}
 use Rattle.steps.specs.Lines.{lines_of}
 use Rattle.steps.specs.Entry.{is_formed}
 use Rattle.steps.specs.Effect.{Effect, shut, silent, carried, ended, effect}
@@ -27,10 +25,9 @@ use Rattle.chapters.specs.Sizes.{Measures, entry_in}
 use Rattle.chapters.specs.Checked.{AllChecked}
 use Rattle.simulation.specs.Simulation.{PositionIn}
 use Rattle.simulation.proofs.Machine.{goes, Lost}
-use Rattle.simulation.proofs.JoinedMachine.{kind_on, joined_machine, finish_end, lands_then, lands_else, joined_laws, checked_at}
-use Rattle.simulation.proofs.NumberedPositions.{by_number}
+use Rattle.simulation.proofs.JoinedMachine.{kind_on, joined_machine, finish_end, lands_then, lands_else, joined_laws}
 use Rattle.simulation.proofs.Stages.{Falls, Stages, staged_lost}
-use Rattle.worked.proofs.EveryPosition.{everywhere, at_position}
+use Rattle.worked.proofs.EveryPosition.{in_chapter, everywhere, at_position}
 use Rattle.worked.proofs.FormedEntries.{formed_pass, few_formed_pass, formed_few, few_formed_passes}
 
 -- a stage above 0 and below another
@@ -141,17 +138,8 @@ module _ (c : Cell) (rs : Chapters) (zs : Measures) (K : AllChecked c rs zs) (st
 
 module _ (c : Cell) (rs : Chapters) (zs : Measures) (K : AllChecked c rs zs) (stages : List ℕ) (good : are_stages_in c rs zs stages ≡ true) where
   staged_at : (p : Point) (a : Configuration) → PositionIn rs zs p a → staged_in c rs zs stages p a ≡ true
-  unfolding are_stages_in
-  staged_at p a at =
-      let k = p.chapter in
-      by_number (zs k) (checked_fits c (recipe_at rs p) (zs k) (checked_at c rs zs K p a at)) (λ q b. staged_in c rs zs stages (point_in k q) b ≡ true)
-      (λ m low.
-      all_at (λ m. staged_in c rs zs stages (point_in k (point_at (zs k) m)) (configuration_at (zs k) m)) (zs k).positions m
-      (all_at
-      (λ k. all_below (λ m. staged_in c rs zs stages (point_in k (point_at (zs k) m)) (configuration_at (zs k) m)) (zs k).positions)
-      (length rs) k good at.there)
-      low)
-      p.point a at.here
+  unfolding are_stages_in everywhere in_chapter
+  staged_at = at_position c rs zs K (staged_in c rs zs stages) good
 
   -- at points of one line both tests are one
   staged_few : (p : Point) (a : Configuration) → staged_in c rs zs stages p a ≡ true → few_staged_in c rs zs stages p a ≡ true

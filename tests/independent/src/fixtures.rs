@@ -278,6 +278,11 @@ pub(crate) fn slow_table(
     Ways::of(cell, joined, &greatest).earlier_table(choose)
 }
 
+/// The table of the smallest entries that begin a shortest way, found slowly.
+pub(crate) fn smallest_table(cell: &Cell, joined: &Joined) -> Vec<u32> {
+    slow_table(cell, joined, |entries| entries.iter().min().copied())
+}
+
 /// The table that is owed for chapters, by trying every single move on the greatest simulation by joint steps.
 pub(crate) fn owed_table(cell: &Cell, joined: &Joined) -> Vec<u32> {
     let greatest = greatest_simulation(cell, joined);
