@@ -1,33 +1,10 @@
--- Bytes stored one after another. Assumes nothing.
+-- Bytes stored behind one another. Assumes nothing.
 use mathlib.Core.Path.{◌≡◌, refl, sym, ap, ◌∙◌}
-use mathlib.Core.List.{List, [], ◌∷◌, ◌++◌}
-use Prim.Native.Nat.{ℕ, suc, ◌+◌, ◌<◌, ◌≤◌}
-use native.Mathlib.Numerals.{add-one}
+use mathlib.Core.List.{List, [], ◌++◌}
+use Prim.Native.Nat.{ℕ, ◌+◌, ◌≤◌}
 use native.Mathlib.Omega.{arith}
-use lib.ListN.{length, get_or, set, take, drop, length-append, length-drop}
-use lib.Seq.{length-take-le, take_all, take-suc, take_at, drop-append-add, drop-drop, sets, sets-eq}
-
--- one byte more behind those stored
-sets_more : (l vs : List ℕ) (at b : ℕ) → sets l at (vs ++ (b ∷ [])) ≡ set (sets l at vs) (at + length vs) b
-sets_more l [] at b = let here : at + 0 ≡ at = omega arith in rw here
-sets_more l (v ∷ vs) at b =
-    let there : at + suc (length vs) ≡ suc at + length vs = omega arith in
-    rw there (sets_more (set l at v) vs (suc at) b)
-
--- the bytes before byte i are stored, and then byte i
-pub stored_next :
-    (old bytes : List ℕ) (at i : ℕ)
-    → i < length bytes
-    → set (sets old at (take i bytes)) (at + i) (get_or bytes i 0) ≡ sets old at (take (i + 1) bytes)
-stored_next old bytes at i low =
-    let many : length (take i bytes) ≡ i = length-take-le i bytes (omega arith) in
-    ap (λ (n : ℕ). set (sets old at (take i bytes)) (at + n) (get_or bytes i 0)) (sym many)
-    ∙ sym (sets_more old (take i bytes) at (get_or bytes i 0))
-    ∙ rw (add-one i, take-suc bytes i 0 low)
-
--- all of them are
-pub stored_all : (old bytes : List ℕ) (at i : ℕ) → length bytes ≤ i → sets old at (take i bytes) ≡ sets old at bytes
-stored_all old bytes at i all = ap (sets old at) (take_all i bytes all)
+use lib.ListN.{length, drop, length-append, length-drop}
+use lib.Seq.{take_at, drop-append-add, drop-drop, sets, sets-eq}
 
 -- some bytes put after what was put before
 pub put_after : (P old vs : List ℕ) → length P + length vs ≤ length old

@@ -10,9 +10,8 @@ use native.Mathlib.Omega.{arith}
 use lib.ListN.{length, drop, length-append}
 use lib.Dec.{ltb}
 use borrow.Author.Tests.{le-ltb, ltb-false}
-use Rattle.refusals.specs.declared.Verdict.{Verdict}
-use Rattle.refusals.specs.declared.Verdict.TheVariants.{Accepted, Refused}
-use Rattle.refusals.specs.Verdict.{if_accepted, refusal_in}
+use Rattle.std.specs.Prelude.{Err}
+use Rattle.refusals.specs.Verdict.{Verdict, Accepted, if_accepted, refusal_in}
 use Rattle.refusals.specs.Search.{tabulate}
 use Rattle.refusals.proofs.Verdicts.{zero_accepts}
 use Rattle.cell.specs.declared.Cell.{Cell}
@@ -22,8 +21,7 @@ use Rattle.chapters.specs.Records.{chapters_from}
 use Rattle.positions.specs.Position.{start}
 use Rattle.steps.proofs.Effects.{makes_six, makes_eight}
 use Rattle.run.specs.declared.Run.{Run}
-use Rattle.run.specs.declared.Report.{Report}
-use Rattle.run.specs.Calls.{point_of, fresh_run, next_move, next_run, report_of, entry_at}
+use Rattle.run.specs.Calls.{Report, point_of, fresh_run, next_move, next_run, report_of, entry_at}
 use Rattle.run.specs.Book.{Call}
 use Rattle.run.proofs.CallsByValue.{run_after, run_answer, run_answers, value_chain}
 use Rattle.simulation.specs.Simulation.{PositionIn}
@@ -42,7 +40,7 @@ answer_whole : (verdict : Verdict) (run next : Run) → Whole run.configuration 
     → Whole (if_accepted verdict next run).configuration
 unfolding if_accepted
 answer_whole Accepted run next own other = other
-answer_whole (Refused refusal line) run next own other = own
+answer_whole (Err broken) run next own other = own
 
 report_whole : (c : Cell) (rs : Chapters) (table : List ℕ) (run : Run) (outcome : ℕ) → Whole run.configuration
     → Whole (report_of c rs table run outcome).run.configuration

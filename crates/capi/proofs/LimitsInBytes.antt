@@ -9,9 +9,8 @@ use lib.ListN.{length, get_or, take, drop, length-append, length-drop, take-appe
 use lib.Seq.{take_at, drop_at, length-take-le}
 use lib.Dec.{ltb}
 use borrow.Author.Tests.{lt-ltb, le-ltb, ltb-false}
-use Rattle.refusals.specs.declared.Verdict.{Verdict}
-use Rattle.refusals.specs.declared.Verdict.TheVariants.{Accepted, Refused}
-use Rattle.refusals.specs.Verdict.{first_refusal, no_line, if_accepted, rule3}
+use Rattle.std.specs.Prelude.{Err}
+use Rattle.refusals.specs.Verdict.{Verdict, Accepted, first_refusal, no_line, if_accepted, rule3}
 use Rattle.refusals.specs.Search.{tabulate}
 use Rattle.refusals.proofs.TabulatedLists.{length_tabulate}
 use Rattle.cell.specs.declared.Cell.{Cell}
@@ -26,7 +25,7 @@ use Rattle.capi.specs.Answer.{LimitsAnswered}
 own_cell : (verdict : Verdict) (c other : Cell) → (code_of verdict ≡ 0 → ⊥) → if_accepted verdict other c ≡ c
 unfolding if_accepted code_of
 own_cell Accepted c other refused = absurd (refused refl)
-own_cell (Refused refusal line) c other refused = refl
+own_cell (Err broken) c other refused = refl
 
 -- "The limit becomes part of the cell record", and nothing else: with other limits or its own the record is as it was handed in
 pub only_limits : (file : List ℕ) (c : Cell) → (read_limits file c).cell ≡ limited_to c (read_limits file c).cell.limits
@@ -35,7 +34,7 @@ only_limits file c = kept (judge_limits file c)
   where
     kept : (verdict : Verdict) → if_accepted verdict (limited file c) c ≡ limited_to c (if_accepted verdict (limited file c) c).limits
     kept Accepted = refl
-    kept (Refused refusal line) = refl
+    kept (Err broken) = refl
 
 -- and there are six of them if there were six
 six_limits : (file : List ℕ) (c : Cell) → length c.limits ≡ 6 → length (read_limits file c).cell.limits ≡ 6
@@ -44,7 +43,7 @@ six_limits file c own = counted (judge_limits file c)
   where
     counted : (verdict : Verdict) → length (if_accepted verdict (limited file c) c).limits ≡ 6
     counted Accepted = length_tabulate _ 6
-    counted (Refused refusal line) = own
+    counted (Err broken) = own
 
 -- the bytes before the limits and those behind them stay
 pub record AllButLimits (entry exit : List ℕ) : Type 0 where

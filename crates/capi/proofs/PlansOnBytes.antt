@@ -3,8 +3,7 @@ use mathlib.Core.Path.{◌≡◌, sym, ap, ◌∙◌}
 use mathlib.Core.List.{List}
 use Prim.Native.Nat.{ℕ, ◌<◌}
 use lib.ListN.{length, get_or}
-use Rattle.refusals.specs.declared.Verdict.TheVariants.{Accepted}
-use Rattle.refusals.specs.Verdict.{refusal_in}
+use Rattle.refusals.specs.Verdict.{Accepted, refusal_in}
 use Rattle.records.specs.Encoding.{cell_from}
 use Rattle.chapters.specs.Records.{chapters_from}
 use Rattle.chapters.specs.Sizes.{sizes_in, begins}

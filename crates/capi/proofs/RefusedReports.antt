@@ -6,9 +6,8 @@ use Prim.Native.Nat.{ℕ}
 use lib.ListN.{length, drop, take-append-drop}
 use lib.Dec.{ltb}
 use borrow.Author.Tests.{ltb-false}
-use Rattle.refusals.specs.declared.Verdict.{Verdict}
-use Rattle.refusals.specs.declared.Verdict.TheVariants.{Accepted, Refused}
-use Rattle.refusals.specs.Verdict.{if_accepted, refusal_in}
+use Rattle.std.specs.Prelude.{Err}
+use Rattle.refusals.specs.Verdict.{Verdict, Accepted, if_accepted, refusal_in}
 use Rattle.cell.specs.declared.Cell.{Cell}
 use Rattle.chapters.specs.Joined.{Chapters}
 use Rattle.run.specs.declared.Run.{Run}
@@ -21,7 +20,7 @@ use Rattle.capi.proofs.BytesRoundTrip.{run_bytes_back}
 own_run : (verdict : Verdict) (run next : Run) → (refusal_in verdict ≡ 0 → ⊥) → if_accepted verdict next run ≡ run
 unfolding if_accepted refusal_in
 own_run Accepted run next refused = absurd (refused refl)
-own_run (Refused refusal line) run next refused = refl
+own_run (Err broken) run next refused = refl
 
 -- a number other than 0 is answered: the bytes stay, those of a run and those behind it, and bytes too few for a run too
 pub refused_stays :

@@ -2,20 +2,15 @@
 use Rattle.std.specs.Prelude.{◌≡◌, cond, List, ◌++◌, ℕ, ◌+◌, ◌*◌, ◌^◌, length, drop, ltb}
 use Rattle.refusals.specs.Refusal.{number_of}
 use Rattle.refusals.specs.declared.Refusal.TheVariants.{TooShort}
-use Rattle.refusals.specs.declared.Verdict.{Verdict}
-use Rattle.refusals.specs.Verdict.{refusal_in}
+use Rattle.refusals.specs.Verdict.{Verdict, refusal_in}
 use Rattle.cell.specs.declared.Cell.{Cell}
-use Rattle.cell.specs.declared.CellReading.{CellReading}
+use Rattle.cell.specs.Reader.{CellReading}
 use Rattle.recipe.specs.declared.Recipe.{Recipe}
 use Rattle.chapters.specs.Joined.{Chapters}
-use Rattle.run.specs.declared.Move.{Move}
-use Rattle.run.specs.declared.Place.{Place}
-use Rattle.run.specs.declared.Report.{Report}
 use Rattle.run.specs.declared.Run.{Run}
-use Rattle.run.specs.Calls.{Stored}
+use Rattle.run.specs.Calls.{Move, Place, Report, Stored}
 use Rattle.planner.specs.Call.{PlanCall}
-use Rattle.install.specs.declared.Listing.{Listing}
-use Rattle.install.specs.Call.{InstallCall}
+use Rattle.install.specs.Call.{Listing, InstallCall}
 use Rattle.records.specs.Encoding.{cell_bytes}
 use Rattle.capi.specs.Encoding.{code_of, run_bytes}
 

@@ -1,8 +1,8 @@
 -- How the C interface writes runs and verdicts as bytes and numbers, as include/cellplan.h says it. Assumes nothing.
 use Rattle.std.specs.Prelude.{cond, List, [], ◌∷◌, ◌++◌, ℕ, ◌+◌, ◌*◌, ◌%◌, ◌^◌, length, get_or, ltb}
 use Rattle.refusals.specs.Refusal.{number_of}
-use Rattle.refusals.specs.declared.Verdict.{Verdict}
-use Rattle.refusals.specs.declared.Verdict.TheVariants.{Accepted, Refused}
+use Rattle.std.specs.Prelude.{Err}
+use Rattle.refusals.specs.Verdict.{Verdict, Accepted}
 use Rattle.refusals.specs.Search.{tabulate}
 use Rattle.positions.specs.Position.{start}
 use Rattle.run.specs.declared.Run.{Run}
@@ -26,4 +26,4 @@ run_from bytes =
 -- a reader's result: refusal + 256 × line, 0 if accepted; the line modulo 2 ^ 56, so that it fits for any file
 unfoldable pub code_of : Verdict → ℕ
 code_of Accepted = 0
-code_of (Refused refusal line) = number_of refusal + 256 * (line % 2 ^ 56)
+code_of (Err broken) = number_of broken.rule + 256 * (broken.line % 2 ^ 56)

@@ -4,13 +4,12 @@
 mod get;
 mod put;
 
-ghost use Rattle.std.specs.Prelude.{◌≡◌, length};
+ghost use Rattle.std.specs.Prelude.{◌≡◌, Err, length};
 ghost use Rattle.tables.specs.Lines.{line_start, shown_line};
 ghost use Rattle.cell.specs.Reader.{read_cell};
 ghost use Rattle.limits.specs.Reader.{read_limits};
 ghost use Rattle.recipe.specs.Reader.{read_recipe};
-ghost use Rattle.refusals.specs.declared.Verdict.TheVariants.{Accepted};
-ghost use Rattle.refusals.specs.Verdict.{refusal_in};
+ghost use Rattle.refusals.specs.Verdict.{Accepted, refusal_in};
 ghost use Rattle.chapters.specs.Records.{chapters_from};
 ghost use Rattle.chapters.specs.Rules.{check_sizes};
 ghost use Rattle.marks.specs.Bytes.{next_set};
@@ -20,20 +19,15 @@ ghost use Rattle.capi.specs.Encoding.{code_of, run_bytes, run_from};
 ghost use Rattle.capi.specs.Answer.{BufferAnswered, LimitsAnswered, move_code, place_code, Reported, Recorded, PlanAnswered, InstallAnswered};
 ghost use Rattle.planner.specs.Call.{FixedCall};
 
-use refusals::{Refusal, Verdict};
+use refusals::{Broken, Refusal, Verdict};
 use run::Run;
 
-// A verdict as one number: the refusal and 256 times the line, 0 if accepted. The line is taken
-// modulo 2 ^ 56, so that it fits for any file.
-fn code(verdict: Verdict) -> u64
-    ensures { result ≡ code_of verdict }
+// A reader's refusal as one number: its own and 256 times the line. The line is taken modulo 2 ^ 56, so
+// that it fits for any file.
+fn code(broken: Broken) -> u64
+    ensures { result ≡ code_of (Err broken) }
 {
-    match verdict {
-        Verdict::Accepted => 0,
-        Verdict::Refused(refusal, line) => {
-            (refusals::number(refusal) as u64) + 256 * ((line % 72057594037927936) as u64)
-        }
-    }
+    u64::from(refusals::number(broken.rule)) + 256 * ((broken.line % 72057594037927936) as u64)
 }
 
 // Reads a cell file into the 327 bytes of a record.
@@ -44,11 +38,16 @@ pub extern "C" fn cellplan_read_cell(file: &[u8], buffer: &mut [u8]) -> u64
     if buffer.len() < 327 {
         return refusals::number(Refusal::TooShort) as u64;
     }
-    let reading = cell::read_cell(file);
-    let cell = reading.cell;
-    records::put_cell(cell, buffer);
-    let verdict = reading.verdict;
-    code(verdict)
+    match cell::read_cell(file) {
+        Ok(cell) => {
+            records::put_cell(cell, buffer);
+            0
+        }
+        Err(broken) => {
+            records::put_cell(records::no_cell(), buffer);
+            code(broken)
+        }
+    }
 }
 
 // Reads a recipe file into the 449 bytes of a record.
@@ -59,11 +58,16 @@ pub extern "C" fn cellplan_read_recipe(file: &[u8], buffer: &mut [u8]) -> u64
     if buffer.len() < 449 {
         return refusals::number(Refusal::TooShort) as u64;
     }
-    let reading = recipe::read_recipe(file);
-    let recipe = reading.recipe;
-    records::put_recipe(recipe, buffer);
-    let verdict = reading.verdict;
-    code(verdict)
+    match recipe::read_recipe(file) {
+        Ok(recipe) => {
+            records::put_recipe(recipe, buffer);
+            0
+        }
+        Err(broken) => {
+            records::put_recipe(records::no_recipe(), buffer);
+            code(broken)
+        }
+    }
 }
 
 // Reads a limits file into the limits of a cell record, or leaves these if it refuses. All other bytes stay.
@@ -71,16 +75,15 @@ pub extern "C" fn cellplan_read_recipe(file: &[u8], buffer: &mut [u8]) -> u64
 pub extern "C" fn cellplan_read_limits(file: &[u8], cell: &mut [u8]) -> u64
     ensures { LimitsAnswered (read_limits file.now (cell_from cell.old)) cell.old cell.new result }
 {
-    let reading = limits::read_limits(file, records::get_cell(cell));
-    let verdict = reading.verdict;
-    let answer = code(verdict);
-    if cell.len() < 327 {
-        return answer;
+    match limits::read_limits(file, records::get_cell(cell)) {
+        Ok(limited) => {
+            if 327 <= cell.len() {
+                buffers::put(cell, 321, &limited.limits);
+            }
+            0
+        }
+        Err(broken) => code(broken),
     }
-    let found = reading.cell;
-    let most = found.limits;
-    buffers::put(cell, 321, &most);
-    answer
 }
 
 // Where value line n starts in the file; 0 if there is none.
@@ -88,8 +91,7 @@ pub extern "C" fn cellplan_read_limits(file: &[u8], cell: &mut [u8]) -> u64
 pub extern "C" fn cellplan_line_start(file: &[u8], n: usize) -> usize
     ensures { result ≡ line_start file.now n }
 {
-    let span = tables::lines::find_line(file, n);
-    span.start
+    tables::lines::find_line(file, n).map_or(0, |span| span.start)
 }
 
 // How many bytes value line n has, without byte 10; 0 if there is none.
@@ -97,8 +99,7 @@ pub extern "C" fn cellplan_line_start(file: &[u8], n: usize) -> usize
 pub extern "C" fn cellplan_line_length(file: &[u8], n: usize) -> usize
     ensures { result ≡ length (shown_line file.now n) }
 {
-    let line = tables::lines::show_line(file, n);
-    line.len()
+    tables::lines::show_line(file, n).len()
 }
 
 // The least place at or after the start whose byte is not 0, or the length: what the planner's sweeps seek by.
@@ -110,12 +111,12 @@ pub extern "C" fn cellplan_next_set(bytes: &[u8], start: usize) -> usize
 }
 
 // The number of a verdict's refusal, 0 if it accepts.
-fn refusal_number(verdict: Verdict) -> u8
+fn refusal_number(verdict: Verdict) -> u32
     ensures { result ≡ refusal_in verdict }
 {
     match verdict {
-        Verdict::Accepted => 0,
-        Verdict::Refused(refusal, _) => refusals::number(refusal),
+        Ok(()) => 0,
+        Err(broken) => u32::from(refusals::number(broken.rule)),
     }
 }
 
@@ -124,8 +125,7 @@ fn refusal_number(verdict: Verdict) -> u8
 pub extern "C" fn cellplan_check(cell: &[u8], recipes: &[u8]) -> u32
     ensures { result ≡ refusal_in (check_sizes (cell_from cell.now) (chapters_from recipes.now)) }
 {
-    let verdict = chapters::check(records::get_cell(cell), recipes);
-    refusal_number(verdict) as u32
+    refusal_number(chapters::check(records::get_cell(cell), recipes))
 }
 
 // Fills a table with a plan, or refuses.
@@ -139,8 +139,7 @@ pub extern "C" fn cellplan_plan(
     ensures answered { PlanAnswered (cell_from cell.now) (chapters_from recipes.now) table.old scratch.old table.new scratch.new result }
     ensures fixed { FixedCall (cell_from cell.now) (chapters_from recipes.now) table.old scratch.old table.new }
 {
-    let verdict = planner::plan(records::get_cell(cell), recipes, table, scratch);
-    refusal_number(verdict) as u32
+    refusal_number(planner::plan(records::get_cell(cell), recipes, table, scratch))
 }
 
 // Lists the operation lines of which each alone would make the recipe acceptable, or refuses.
@@ -154,15 +153,12 @@ pub extern "C" fn cellplan_install(
 ) -> u64
     ensures { InstallAnswered (cell_from cell.now) (recipe_from recipe.now) table.old scratch.old list.old table.new scratch.new list.new result }
 {
-    let listing = install::install(
-        records::get_cell(cell),
-        records::get_recipe(recipe),
-        table,
-        scratch,
-        list,
-    );
-    let verdict = listing.verdict;
-    refusal_number(verdict) as u64 * 4294967296 + listing.count as u64
+    let cell = records::get_cell(cell);
+    let recipe = records::get_recipe(recipe);
+    match install::install(cell, recipe, table, scratch, list) {
+        Ok(count) => count as u64,
+        Err(broken) => u64::from(refusals::number(broken.rule)) * 4294967296,
+    }
 }
 
 // Writes a fresh run.
@@ -188,9 +184,10 @@ pub extern "C" fn cellplan_next_move(
     ensures { result ≡ move_code (next_move (cell_from cell.now) (chapters_from recipes.now) table.now (run_from bytes.now)) }
 {
     let run = get::get_run(bytes);
-    let answer = run.next_move(records::get_cell(cell), recipes, table);
-    let verdict = answer.verdict;
-    refusal_number(verdict) as u64 * 4294967296 + answer.entry as u64
+    match run.next_move(records::get_cell(cell), recipes, table) {
+        Ok(entry) => u64::from(entry),
+        Err(broken) => u64::from(refusals::number(broken.rule)) * 4294967296,
+    }
 }
 
 // Writes the next run over a run, or leaves it if the report is refused.
@@ -205,15 +202,15 @@ pub extern "C" fn cellplan_report(
     ensures { Reported (report_of (cell_from cell.now) (chapters_from recipes.now) table.now (run_from buffer.old) outcome) buffer.old buffer.new result }
 {
     let run = get::get_run(buffer);
-    let answer = run.report(records::get_cell(cell), recipes, table, outcome);
-    let verdict = answer.verdict;
-    let refusal = refusal_number(verdict) as u32;
-    if buffer.len() < 16 {
-        return refusal;
+    match run.report(records::get_cell(cell), recipes, table, outcome) {
+        Ok(next) => {
+            if 16 <= buffer.len() {
+                put::put_run(next, buffer);
+            }
+            0
+        }
+        Err(broken) => u32::from(refusals::number(broken.rule)),
     }
-    let next = answer.run;
-    put::put_run(next, buffer);
-    refusal
 }
 
 // Advances a run record in its own storage, or leaves it if the report is refused.
@@ -227,8 +224,7 @@ pub extern "C" fn cellplan_report_record(
 ) -> u32
     ensures { Recorded (cell_from cell.now) (chapters_from recipes.now) table.now run.old outcome run.new result }
 {
-    let verdict = run::report_record(run, records::get_cell(cell), recipes, table, outcome);
-    refusal_number(verdict) as u32
+    refusal_number(run::report_record(run, records::get_cell(cell), recipes, table, outcome))
 }
 
 // The place of a part.
@@ -237,7 +233,8 @@ pub extern "C" fn cellplan_place(cell: &[u8], recipes: &[u8], bytes: &[u8], part
     ensures { result ≡ place_code (part_place (cell_from cell.now) (chapters_from recipes.now) (run_from bytes.now) part) }
 {
     let run = get::get_run(bytes);
-    let answer = run.place(records::get_cell(cell), recipes, part);
-    let verdict = answer.verdict;
-    refusal_number(verdict) as u32 * 256 + answer.place as u32
+    match run.place(records::get_cell(cell), recipes, part) {
+        Ok(place) => u32::from(place),
+        Err(broken) => u32::from(refusals::number(broken.rule)) * 256 + 255,
+    }
 }

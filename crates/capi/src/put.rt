@@ -9,13 +9,8 @@ pub fn put_run(run: Run, buffer: &mut [u8])
     requires { 16 ≤ length buffer.old }
     ensures { buffer.new ≡ run_bytes run ++ drop 16 buffer.old }
 {
-    let configuration = run.configuration;
-    let state = configuration.state;
-    let place = configuration.place;
-    let point = [run.point];
-    let chapter = [run.chapter];
-    buffers::put(buffer, 0, &point);
-    buffers::put(buffer, 1, &state);
-    buffers::put(buffer, 7, &place);
-    buffers::put(buffer, 15, &chapter);
+    buffer[0] = run.point;
+    buffers::put(buffer, 1, &run.configuration.state);
+    buffers::put(buffer, 7, &run.configuration.place);
+    buffer[15] = run.chapter;
 }

@@ -7,9 +7,8 @@ use Prim.Native.Nat.{ℕ, ◌<◌, ◌≤◌}
 use native.Mathlib.Omega.{arith}
 use lib.ListN.{length, get_or}
 use borrow.Author.Tests.{le-leb, leb-true, eqb-true, not-false}
-use Rattle.refusals.specs.declared.Verdict.TheVariants.{Accepted, Refused}
-use Rattle.refusals.specs.declared.Verdict.{Verdict}
-use Rattle.refusals.specs.Verdict.{rule3, if_accepted}
+use Rattle.std.specs.Prelude.{Err}
+use Rattle.refusals.specs.Verdict.{Accepted, Verdict, rule3, if_accepted}
 use Rattle.refusals.proofs.EveryBelow.{any_not}
 use Rattle.refusals.proofs.Verdicts.{and_left, and_right, none_breaks, no_line_accepts, count_in_range}
 use Rattle.refusals.proofs.Rules.{first_accepts, rest_accepts}
@@ -88,4 +87,4 @@ read_few file = judge (judge_cell file) refl
   where
     judge : (v : Verdict) → judge_cell file ≡ v → (reading v (cell_of file)).cell.count ≤ 64
     judge Accepted e = (count_in_range (length (value_lines file)) (each_accepts (cell_of file) (rest_accepts _ _ (rest_accepts _ _ e))).third).most
-    judge (Refused refusal line) e = omega arith
+    judge (Err broken) e = omega arith

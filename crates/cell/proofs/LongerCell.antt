@@ -11,10 +11,9 @@ use lib.ListN.{length, get_or, length-set, length-append}
 use lib.Seq.{get_or-set_same, get_or-set_other}
 use lib.Dec.{eqb}
 use borrow.Author.Tests.{le-leb, le-ltb, ne_eqb, not-false}
-use Rattle.refusals.specs.declared.Verdict.TheVariants.{Accepted}
+use Rattle.refusals.specs.Verdict.{Accepted, first_refusal, no_line, rule3}
 use Rattle.refusals.specs.declared.Refusal.TheVariants.{LineCount, Range, ResourceGap, NoPartner, LimitResource, RejectLine}
 use Rattle.refusals.specs.Search.{any_below, is_of}
-use Rattle.refusals.specs.Verdict.{first_refusal, no_line, rule3}
 use Rattle.refusals.proofs.Scan.{greatest_within, greatest_longer}
 use Rattle.refusals.proofs.EveryBelow.{any_none, any_not, any_longer}
 use Rattle.refusals.proofs.Verdicts.{none_breaks, none_broken, no_line_kept, no_line_accepts}
@@ -25,9 +24,7 @@ use Rattle.cell.specs.Rules.{in_range, leaves_range, rule4, rule4_limits, greate
 use Rattle.cell.specs.Rules.{partner, unpaired, rule6, alike, limits_absent, rule20, stray, rule23, cell_rules, check_cell}
 use Rattle.cell.specs.Longer.{with_line, with_lines}
 use Rattle.cell.proofs.AcceptedRecord.{line_in_range, each_accepts}
-use Rattle.cell.proofs.Partners.{neither}
 use Rattle.cell.proofs.RejectGates.{alike_in}
-use Rattle.cell.proofs.Strays.{no_gate}
 
 -- a cell record as it stands in memory: every column has 64 lines
 pub record Columns (c : Cell) : Type 0 where
@@ -305,9 +302,7 @@ module _ (c : Cell) (l : OperationLine) (C : Columns c) (few : c.count < 64) (ow
             (none_breaks _ _ _ (each_accepts c accepted).sixth i low))
 
         added : IsLine d c.count l → unpaired d.resource d.act d.arg d.count c.count ≡ false
-        added L =
-            neither d.resource d.act d.arg d.count c.count
-            (λ (e : get_or d.act c.count 0 ≡ 2). omega (arith, L.act)) (λ (e : get_or d.act c.count 0 ≡ 3). omega (arith, L.act))
+        added L = rw L.act
 
     -- neither the limits nor the resources are others
     twentieth : rule20 (with_line c l) ≡ Accepted
@@ -349,7 +344,7 @@ module _ (c : Cell) (l : OperationLine) (C : Columns c) (few : c.count < 64) (ow
             (none_breaks _ _ _ (each_accepts c accepted).twenty_third i low))
 
         added : IsLine d c.count l → strays d c.count ≡ false
-        added L = no_gate d.resource d.from d.act d.arg d.count c.count (λ (e : get_or d.act c.count 0 ≡ 4). omega (arith, L.act))
+        added L = rw L.act
 
 -- an operation line more, of a resource of the cell, breaks no rule
 pub longer_accepted :

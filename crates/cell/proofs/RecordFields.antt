@@ -1,25 +1,28 @@
 -- The record that a reader fills from a file's numbers, field by field. Assumes nothing.
-use mathlib.Core.Path.{◌≡◌, refl, ap, ◌∙◌}
+use mathlib.Core.Path.{◌≡◌, sym, ap, ◌∙◌}
 use mathlib.Core.Bool.{Bool, not, ◌&&◌}
 use mathlib.Core.List.{List, ◌∷◌}
-use Prim.Native.Nat.{ℕ, ◌+◌, ◌<◌, ◌≤◌}
+use Prim.Native.Nat.{ℕ, ◌<◌, ◌≤◌}
 use native.Mathlib.Omega.{arith}
 use lib.ListN.{length}
-use Rattle.refusals.specs.declared.Verdict.{Verdict}
-use Rattle.refusals.specs.declared.Verdict.TheVariants.{Refused}
+use borrow.Author.Tests.{ltb-false}
+use Rattle.refusals.specs.Verdict.{Verdict, first_refusal, line_verdict, first_line, found_if}
+use Rattle.refusals.specs.declared.Broken.{Broken}
+use Rattle.std.specs.Prelude.{Result, Ok, Err}
 use Rattle.refusals.specs.declared.Refusal.TheVariants.{Range}
 use Rattle.refusals.specs.Search.{first_below}
-use Rattle.refusals.specs.Verdict.{first_refusal, if_accepted}
 use Rattle.refusals.proofs.Scan.{first_same, first_both}
-use Rattle.refusals.proofs.Verdicts.{broken, kept}
+use Rattle.refusals.proofs.Verdicts.{test_fails}
+use Rattle.refusals.proofs.Rules.{tried_err, tried_ok, found_err, found_ok}
 use Rattle.tables.specs.declared.Column.{Column}
 use Rattle.tables.specs.Lines.{value_lines}
 use Rattle.tables.specs.Table.{number_at, column}
 use Rattle.tables.specs.Reading.{Kept, within, Ranged}
 use Rattle.tables.proofs.Columns.{within_most, column_at, OfFile, of_file, read_all}
+use Rattle.cell.specs.declared.Cell.{Cell}
+use Rattle.cell.specs.Inner.{after_range}
 use Rattle.cell.specs.Rules.{leaves_range, rule4, in_range}
-use Rattle.cell.specs.Reader.{no_limits, cell_of, no_cell}
-use Rattle.cell.specs.Inner.{reading}
+use Rattle.cell.specs.Reader.{no_limits, cell_of}
 
 leaves : List ℕ → ℕ → Bool
 leaves f = leaves_range (column f 0) (column f 1) (column f 2) (column f 3) (column f 4)
@@ -89,28 +92,36 @@ module _
           column_at f 4 i low,
         )
 
+    -- rule 4 of the file's record, by the lines that were read
+    stored_rule4 : line_verdict Range to.lines count ≡ rule4 (cell_of f)
+    unfolding first_line rule4 cell_of leaves
+    stored_rule4 = rw (all, found)
+
+    -- what the reader answers from rule 4 on
+    abbrev answer : Result Cell Broken
+    answer = found_if (first_refusal (rule4 (cell_of f) ∷ after_range (cell_of f))) (cell_of f)
+
     -- a number leaves its range
-    pub stored_out : (rest : List Verdict) → to.lines < count
-        → reading (Refused Range (to.lines + 2)) no_cell ≡ reading (first_refusal (rule4 (cell_of f) ∷ rest)) (cell_of f)
-    unfolding reading if_accepted rule4 cell_of leaves
-    stored_out rest low = ap (λ (v : Verdict). reading v (cell_of f)) (broken Range (leaves f) (length (value_lines f)) to.lines found rest (omega arith))
+    pub stored_out : {e : Broken} → line_verdict Range to.lines count ≡ Err e → answer ≡ Err e
+    stored_out out = found_err _ _ (tried_err _ _ (sym stored_rule4 ∙ out))
 
     -- all are in range: the record is the file's, and rule 4 leaves it to the others
-    module _ (past : count ≤ to.lines) where
-      pub stored_cell : record {
-        count =
-            count;
-        resource =
-            resource.values;
+    module _ {done : Unit} (fine : line_verdict Range to.lines count ≡ Ok done) where
+      abbrev stored : Cell
+      stored = record {
+        count = count;
+        resource = resource.values;
         from = from.values;
         act = act.values;
         arg = arg.values;
         to = to.values;
         limits = no_limits;
-      } ≡ cell_of
-          f
-      unfolding cell_of
+      }
+
+      stored_cell : stored ≡ cell_of f
+      unfolding cell_of line_verdict
       stored_cell =
+          let past : count ≤ to.lines = ltb-false _ _ (test_fails _ _ _ fine) in
           let most0 : resource.lines ≤ count = R0.fewer in
           let most1 : from.lines ≤ count = omega (arith, R1.fewer) in
           let most2 : act.lines ≤ count = omega (arith, R2.fewer) in
@@ -122,6 +133,12 @@ module _
           let e = read_all f 4 0 7 arg.lines count to R4 most3 past few all in
           λ i. record { count = all i; resource = a i; from = b i; act = c i; arg = d i; to = e i; limits = no_limits }
 
-      pub stored_fine : (rest : List Verdict) → first_refusal rest ≡ first_refusal (rule4 (cell_of f) ∷ rest)
-      unfolding rule4 cell_of leaves
-      stored_fine rest = kept Range (leaves f) (length (value_lines f)) to.lines found rest (omega arith) refl
+      stored_judged : {v : Verdict} → v ≡ first_refusal (after_range stored) → first_refusal (rule4 (cell_of f) ∷ after_range (cell_of f)) ≡ v
+      stored_judged judged =
+          tried_ok _ _ (sym stored_rule4 ∙ fine) ∙ sym (judged ∙ ap (λ (c : Cell). first_refusal (after_range c)) stored_cell)
+
+      pub stored_refused : {e : Broken} {v : Verdict} → v ≡ first_refusal (after_range stored) → v ≡ Err e → answer ≡ Err e
+      stored_refused judged is = found_err _ _ (stored_judged judged ∙ is)
+
+      pub stored_found : {d : Unit} {v : Verdict} → v ≡ first_refusal (after_range stored) → v ≡ Ok d → answer ≡ Ok stored
+      stored_found judged is = found_ok _ _ (stored_judged judged ∙ is) ∙ ap (λ (c : Cell). Ok c) (sym stored_cell)

@@ -6,7 +6,7 @@ use native.Mathlib.Decide.{dec_lt}
 use native.Mathlib.Omega.{arith}
 use lib.ListN.{get_or}
 use borrow.Author.Tests.{eqb-true, eq-eqb}
-use Rattle.refusals.specs.declared.Verdict.TheVariants.{Accepted}
+use Rattle.refusals.specs.Verdict.{Accepted}
 use Rattle.refusals.specs.declared.Refusal.TheVariants.{RejectLine}
 use Rattle.refusals.specs.Search.{any_below}
 use Rattle.refusals.proofs.EveryBelow.{any_not}

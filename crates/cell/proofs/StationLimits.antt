@@ -8,11 +8,10 @@ use native.Mathlib.Omega.{arith}
 use lib.ListN.{get_or, get_or-replicate}
 use lib.Dec.{leb}
 use borrow.Author.Tests.{le-leb, lt-leb, eq-eqb, ne_eqb}
-use Rattle.refusals.specs.declared.Verdict.{Verdict}
-use Rattle.refusals.specs.declared.Verdict.TheVariants.{Accepted, Refused}
+use Rattle.std.specs.Prelude.{Err}
+use Rattle.refusals.specs.Verdict.{Verdict, Accepted, first_refusal, rule3}
 use Rattle.refusals.specs.declared.Refusal.TheVariants.{Range, LimitResource}
 use Rattle.refusals.specs.Search.{any_below}
-use Rattle.refusals.specs.Verdict.{first_refusal, rule3}
 use Rattle.refusals.proofs.EveryBelow.{any_none, any_not}
 use Rattle.refusals.proofs.Verdicts.{no_line_kept}
 use Rattle.cell.specs.declared.Cell.{Cell}
@@ -21,14 +20,6 @@ use Rattle.cell.specs.Reader.{no_limits}
 use Rattle.cell.specs.Inner.{after_range}
 
 module _ (limits : List ℕ) (k : ℕ) where
-  pub limit_low : get_or limits k 0 < 1 → limit_leaves_range limits k ≡ true
-  unfolding limit_leaves_range limit_in_range
-  limit_low low = rw (lt-leb 1 (get_or limits k 0) low)
-
-  pub limit_high : 1 ≤ get_or limits k 0 → 8 < get_or limits k 0 → limit_leaves_range limits k ≡ true
-  unfolding limit_leaves_range limit_in_range
-  limit_high low high = rw (le-leb 1 (get_or limits k 0) low, lt-leb (get_or limits k 0) 8 high)
-
   pub limit_fits : 1 ≤ get_or limits k 0 → get_or limits k 0 ≤ 8 → limit_leaves_range limits k ≡ false
   unfolding limit_leaves_range limit_in_range
   limit_fits low high = rw (le-leb 1 (get_or limits k 0) low, le-leb (get_or limits k 0) 8 high)
@@ -38,7 +29,7 @@ module _ (limits : List ℕ) (k : ℕ) where
     unfolding limits_absent
     limit_present low = rw (lt-leb R k low)
 
-    pub limit_other : R ≤ k → (get_or limits k 0 ≡ 8 → ⊥) → limits_absent limits R k ≡ true
+    limit_other : R ≤ k → (get_or limits k 0 ≡ 8 → ⊥) → limits_absent limits R k ≡ true
     unfolding limits_absent
     limit_other high ne = rw (le-leb R k high, ne_eqb (get_or limits k 0) 8 ne)
 
@@ -90,8 +81,8 @@ module _ (c : Cell) (eights : c.limits ≡ no_limits) where
           → rule6 c ≡ x
           → rule23 c ≡ y
           → first_refusal (rule4 c ∷ after_range c) ≡ check_cell c
-      judge (Refused refusal line) w x y e f g h = rw (counted, e)
-      judge Accepted (Refused refusal line) x y e f g h = rw (counted, is_in_range, e, f)
-      judge Accepted Accepted (Refused refusal line) y e f g h = rw (counted, is_in_range, anywhere, e, f, g)
-      judge Accepted Accepted Accepted (Refused refusal line) e f g h = rw (counted, is_in_range, anywhere, e, f, g, h)
+      judge (Err broken) w x y e f g h = rw (counted, e)
+      judge Accepted (Err broken) x y e f g h = rw (counted, is_in_range, e, f)
+      judge Accepted Accepted (Err broken) y e f g h = rw (counted, is_in_range, anywhere, e, f, g)
+      judge Accepted Accepted Accepted (Err broken) e f g h = rw (counted, is_in_range, anywhere, e, f, g, h)
       judge Accepted Accepted Accepted Accepted e f g h = rw (counted, is_in_range, anywhere, e, f, g, h)

@@ -1,11 +1,10 @@
 -- What the reader of a cell file returns. Assumes nothing.
-use Rattle.std.specs.Prelude.{List, [], ◌∷◌, ℕ, length, replicate}
-use Rattle.refusals.specs.declared.Verdict.{Verdict}
-use Rattle.refusals.specs.Verdict.{first_refusal, if_accepted}
+use Rattle.std.specs.Prelude.{Result, Ok, Err, List, [], ◌∷◌, ℕ, length, replicate}
+use Rattle.refusals.specs.declared.Broken.{Broken}
+use Rattle.refusals.specs.Verdict.{Verdict, Accepted, first_refusal, if_accepted}
 use Rattle.tables.specs.Lines.{value_lines}
 use Rattle.tables.specs.Table.{rule1, rule2, column}
 use Rattle.cell.specs.declared.Cell.{Cell}
-use Rattle.cell.specs.declared.CellReading.{CellReading}
 use Rattle.cell.specs.Rules.{cell_rules}
 
 -- "The first line is exactly `resource,from,act,arg,to`", in ASCII
@@ -40,6 +39,16 @@ abbrev pub no_cell : Cell
 no_cell =
     let zeros : List ℕ = replicate 64 0 in
     record { count = 0; resource = zeros; from = zeros; act = zeros; arg = zeros; to = zeros; limits = no_limits }
+
+-- what a reader gives: its verdict and the record
+pub record CellReading : Type 0 where
+  pub verdict : Verdict
+  pub cell : Cell
+
+-- an answer of `read_cell`: the record, or a refusal, with which there is a record of no lines
+unfoldable pub reading_of : Result Cell Broken → CellReading
+reading_of (Ok cell) = record { verdict = Accepted; cell = cell }
+reading_of (Err broken) = record { verdict = Err broken; cell = no_cell }
 
 -- "A cell file .. gets the plan or move it deserves or the first refusal of document 01's list that fits": what the reader returns
 unfoldable pub read_cell : List ℕ → CellReading

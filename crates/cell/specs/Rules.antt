@@ -1,10 +1,9 @@
 -- The rules on a cell record, in the order of the refusal list. Each sees the first `count` lines alone, or the six limits.
 -- Assumes nothing.
 use Rattle.std.specs.Prelude.{Bool, cond, not, ◌&&◌, ◌||◌, List, [], ◌∷◌, ℕ, ◌+◌, get_or, eqb, leb}
-use Rattle.refusals.specs.declared.Verdict.{Verdict}
+use Rattle.refusals.specs.Verdict.{Verdict, first_refusal, first_line, no_line, rule3}
 use Rattle.refusals.specs.declared.Refusal.TheVariants.{Range, ResourceGap, NoPartner, LimitResource, RejectLine}
 use Rattle.refusals.specs.Search.{any_below, greatest_below, is_of}
-use Rattle.refusals.specs.Verdict.{first_refusal, first_line, no_line, rule3}
 use Rattle.cell.specs.declared.Cell.{Cell}
 
 -- "Ranges: resource 0 to 5, from and to 0 to 7, arg 0 to 63, act: 0 internal, 1 operation, 2 in, 3 out.", and "Act 4 joins the range in

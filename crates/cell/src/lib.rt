@@ -11,15 +11,26 @@ pub mod resources;
 
 ghost use Rattle.std.specs.Prelude.{◌≡◌, ◌≤◌};
 ghost use Rattle.refusals.specs.Verdict.{first_refusal};
-ghost use Rattle.cell.specs.Reader.{read_cell};
-ghost use Rattle.cell.specs.Rules.{rule23, check_cell};
-ghost use Rattle.cell.specs.Inner.{ranges, port_rules, limits_verdict};
+ghost use Rattle.cell.specs.Reader.{read_cell, reading_of};
+ghost use Rattle.cell.specs.Rules.{rule20, rule23, check_cell};
+ghost use Rattle.cell.specs.Inner.{ranges, port_rules};
 
-use refusals::{Refusal, Verdict};
-use tables::Form;
+use refusals::{Broken, Refusal, Verdict};
+
+// The acts of a line. A record may hold other numbers, until rule 4 has seen it.
+pub const INTERNAL: u8 = 0;
+
+pub const OPERATION: u8 = 1;
+
+pub const IN: u8 = 2;
+
+pub const OUT: u8 = 3;
+
+pub const GATE: u8 = 4;
 
 // The lines of a cell, an array for each field, and the most parts that each resource may hold; of the lines what lies
-// past the count counts for nothing.
+// past the count counts for nothing. No Vec of lines: memory is fixed, and the definitions (`leaves_range`, `partner`, `alike` of
+// specs/Rules) and what is proved of them speak of the columns.
 #[derive(Clone, Copy)]
 pub struct Cell {
     pub count: usize,
@@ -40,116 +51,70 @@ pub struct OperationLine {
     pub to: u8,
 }
 
-// What a reader returns: its verdict and the record. Beside a refusal `read_cell` has a record of no lines, and a reader
-// that is handed a record has that one.
-#[derive(Clone, Copy)]
-pub struct CellReading {
-    pub verdict: Verdict,
-    pub cell: Cell,
-}
-
 // Rule 4, on a record that passed rule 3: its lines, then its limits, which are in no line.
-fn check_ranges(cell: Cell) -> Verdict
-    requires { cell.count ≤ 64 }
-    ensures { result ≡ first_refusal (ranges cell) }
+#[tactic(auto, using(refusals::proofs::Rules::tried), unfolding(crate::specs::Inner::ranges, crate::specs::Rules::rule4, crate::specs::Rules::rule4_limits, refusals::specs::Verdict::first_line))]
+fn check_ranges(cell: &Cell) -> Verdict
+    requires { cell.now.count ≤ 64 }
+    ensures { result ≡ first_refusal (ranges cell.now) }
 {
-    let count = cell.count;
-    let resource = cell.resource;
-    let from = cell.from;
-    let act = cell.act;
-    let arg = cell.arg;
-    let to = cell.to;
-    let first = range::first_out_of_range(&resource, &from, &act, &arg, &to, count);
-    if first < count {
-        return Verdict::Refused(Refusal::Range, first + 2);
-    }
-    let most = cell.limits;
-    if limits::any_out_of_range(&most) {
-        return Verdict::Refused(Refusal::Range, 0);
-    }
-    Verdict::Accepted
+    refusals::at_line(Refusal::Range, range::first_out_of_range(cell), cell.count)?;
+    refusals::no_line(Refusal::Range, limits::any_out_of_range(&cell.limits))
 }
 
 // Rules 5 and 6, on a record that passed rules 3 and 4.
-pub fn check_ports(cell: Cell) -> Verdict
-    requires { cell.count ≤ 64 }
-    ensures { result ≡ first_refusal (port_rules cell) }
+#[tactic(auto, using(refusals::proofs::Rules::tried), unfolding(crate::specs::Inner::port_rules, crate::specs::Rules::rule5, crate::specs::Rules::rule6, refusals::specs::Verdict::first_line))]
+pub fn check_ports(cell: &Cell) -> Verdict
+    requires { cell.now.count ≤ 64 }
+    ensures { result ≡ first_refusal (port_rules cell.now) }
 {
-    let count = cell.count;
-    let resource = cell.resource;
-    let act = cell.act;
-    let arg = cell.arg;
-    if resources::has_gap(&resource, count) {
-        return Verdict::Refused(Refusal::ResourceGap, 0);
-    }
-    let first = ports::first_unpaired(&resource, &act, &arg, count);
-    refusals::at_line(Refusal::NoPartner, first, count)
+    refusals::no_line(Refusal::ResourceGap, resources::has_gap(cell))?;
+    let first = ports::first_unpaired(cell);
+    refusals::at_line(Refusal::NoPartner, first, cell.count)
 }
 
-// Rule 20, on the limits and the lines' resources of a record that passed rule 3. Where every limit is 8, R need not be known.
-fn check_limits(most: &[u8; 6], resource: &[u8; 64], count: usize) -> Verdict
-    requires { count ≤ 64 }
-    ensures { result ≡ limits_verdict most.now resource.now count }
+// Rule 20, on a record that passed rule 3. Where every limit is 8, R need not be known.
+#[tactic(auto, using(crate::proofs::StationLimits::none_absent), unfolding(crate::specs::Rules::rule20, refusals::specs::Verdict::no_line))]
+fn check_limits(cell: &Cell) -> Verdict
+    requires { cell.now.count ≤ 64 }
+    ensures { result ≡ rule20 cell.now }
 {
-    if !limits::any_limited(most, 0) {
-        return Verdict::Accepted;
+    if !limits::any_limited(&cell.limits, 0) {
+        return Ok(());
     }
-    let resources = resources::greatest(resource, count) as usize + 1;
-    if limits::any_limited(most, resources) {
-        return Verdict::Refused(Refusal::LimitResource, 0);
-    }
-    Verdict::Accepted
+    let resources = resources::greatest(cell) as usize + 1;
+    refusals::no_line(
+        Refusal::LimitResource,
+        limits::any_limited(&cell.limits, resources),
+    )
 }
 
 // Rule 23, on a record that passed rule 3.
-pub fn check_gates(cell: Cell) -> Verdict
-    requires { cell.count ≤ 64 }
-    ensures { result ≡ rule23 cell }
+#[tactic(auto, unfolding(crate::specs::Rules::rule23, refusals::specs::Verdict::first_line))]
+pub fn check_gates(cell: &Cell) -> Verdict
+    requires { cell.now.count ≤ 64 }
+    ensures { result ≡ rule23 cell.now }
 {
-    let count = cell.count;
-    let resource = cell.resource;
-    let from = cell.from;
-    let act = cell.act;
-    let arg = cell.arg;
-    let first = gates::first_stray(&resource, &from, &act, &arg, count);
-    refusals::at_line(Refusal::RejectLine, first, count)
+    refusals::at_line(Refusal::RejectLine, gates::first_stray(cell), cell.count)
 }
 
 // All rules on a record handed in, whatever is in it.
+#[tactic(auto, using(refusals::proofs::Rules::tried, refusals::proofs::Verdicts::count_most), unfolding(crate::specs::Rules::check_cell, crate::specs::Rules::cell_rules, crate::specs::Inner::ranges, crate::specs::Inner::port_rules))]
 pub fn check_cell(cell: Cell) -> Verdict
     ensures { result ≡ check_cell cell }
 {
-    let counted = refusals::check_count(cell.count);
-    let Verdict::Accepted = counted else {
-        return counted;
-    };
-    let ranged = check_ranges(cell);
-    let Verdict::Accepted = ranged else {
-        return ranged;
-    };
-    let paired = check_ports(cell);
-    let Verdict::Accepted = paired else {
-        return paired;
-    };
-    let most = cell.limits;
-    let resource = cell.resource;
-    let limited = check_limits(&most, &resource, cell.count);
-    let Verdict::Accepted = limited else {
-        return limited;
-    };
-    check_gates(cell)
+    refusals::check_count(cell.count)?;
+    check_ranges(&cell)?;
+    check_ports(&cell)?;
+    check_limits(&cell)?;
+    check_gates(&cell)
 }
 
 // The cell that a file writes, whatever is in it.
-pub fn read_cell(file: &[u8]) -> CellReading
-    ensures { result ≡ read_cell file.now }
+pub fn read_cell(file: &[u8]) -> Result<Cell, Broken>
+    ensures { reading_of result ≡ read_cell file.now }
 {
-    if !tables::rules::has_names(file, b"resource,from,act,arg,to\n") {
-        return reader::refused(Refusal::Names, 1);
-    }
+    tables::rules::check_names(file, b"resource,from,act,arg,to\n")?;
     let mut numbers = [0u32; 448];
-    match tables::rules::check_lines(file, 5, &mut numbers) {
-        Form::Broken(n) => reader::refused(Refusal::Form, n + 2),
-        Form::Whole(count) => reader::read_lines(&numbers, count),
-    }
+    let count = tables::rules::check_lines(file, 5, &mut numbers)?;
+    reader::read_lines(&numbers, count)
 }

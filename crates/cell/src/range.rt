@@ -3,43 +3,30 @@ ghost use Rattle.std.specs.Prelude.{◌≡◌, ◌≤◌};
 ghost use Rattle.refusals.specs.Search.{first_below};
 ghost use Rattle.cell.specs.Rules.{in_range, leaves_range};
 
+use crate::Cell;
+use refusals::search;
+
 // Whether the numbers of a line are each in its range.
+#[tactic(auto, unfolding(crate::specs::Rules::in_range))]
 fn in_range(resource: u8, from: u8, act: u8, arg: u8, to: u8) -> bool
     ensures { result ≡ in_range resource from act arg to }
 {
-    if 5 < resource {
-        return false;
-    }
-    if 7 < from {
-        return false;
-    }
-    if 4 < act {
-        return false;
-    }
-    if 63 < arg {
-        return false;
-    }
-    to <= 7
+    resource <= 5 && from <= 7 && act <= 4 && arg <= 63 && to <= 7
 }
 
 // The first line of which a number leaves its range, or the count.
-pub fn first_out_of_range(
-    resource: &[u8; 64],
-    from: &[u8; 64],
-    act: &[u8; 64],
-    arg: &[u8; 64],
-    to: &[u8; 64],
-    count: usize,
-) -> usize
-    requires { count ≤ 64 }
-    ensures { result ≡ first_below (leaves_range resource.now from.now act.now arg.now to.now) count }
+#[tactic(auto, unfolding(crate::specs::Rules::leaves_range))]
+pub fn first_out_of_range(cell: &Cell) -> usize
+    requires { cell.now.count ≤ 64 }
+    ensures { result ≡ first_below (leaves_range cell.now.resource cell.now.from cell.now.act cell.now.arg cell.now.to) cell.now.count }
 {
-    let mut i = 0;
-    while i < count {
-        if !in_range(resource[i], from[i], act[i], arg[i], to[i]) {
-            return i;
-        }
-        i += 1;
-    }
-    count
+    search::first_below(cell.count, |n| {
+        !in_range(
+            cell.resource[n],
+            cell.from[n],
+            cell.act[n],
+            cell.arg[n],
+            cell.to[n],
+        )
+    })
 }

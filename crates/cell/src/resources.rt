@@ -3,49 +3,36 @@ ghost use Rattle.std.specs.Prelude.{◌≡◌, ◌≤◌};
 ghost use Rattle.refusals.specs.Search.{any_below, is_of};
 ghost use Rattle.cell.specs.Rules.{gap, greatest_resource};
 
+use crate::Cell;
+use refusals::search;
+
 // The greatest resource number of the lines.
-pub fn greatest(resource: &[u8; 64], count: usize) -> u8
-    requires { count ≤ 64 }
-    ensures { result ≡ greatest_resource resource.now count }
+#[tactic(auto, unfolding(crate::specs::Rules::greatest_resource, refusals::specs::Search::greatest_below))]
+pub fn greatest(cell: &Cell) -> u8
+    requires { cell.now.count ≤ 64 }
+    ensures { result ≡ greatest_resource cell.now.resource cell.now.count }
 {
     let mut most = 0;
-    let mut i = 0;
-    while i < count {
-        if most < resource[i] {
-            most = resource[i];
-        }
-        i += 1;
+    for i in 0..cell.count {
+        most = cell.resource[i].max(most);
     }
     most
 }
 
 // Whether some line is of resource k.
-fn has_line(resource: &[u8; 64], count: usize, k: u8) -> bool
-    requires { count ≤ 64 }
-    ensures { result ≡ any_below (is_of resource.now k) count }
+#[tactic(auto, unfolding(refusals::specs::Search::is_of))]
+fn has_line(cell: &Cell, k: usize) -> bool
+    requires { cell.now.count ≤ 64 }
+    ensures { result ≡ any_below (is_of cell.now.resource k) cell.now.count }
 {
-    let mut i = 0;
-    while i < count {
-        if resource[i] == k {
-            return true;
-        }
-        i += 1;
-    }
-    false
+    search::any_below(cell.count, |i| cell.resource[i] as usize == k)
 }
 
 // Whether a resource below the greatest has no line.
-pub fn has_gap(resource: &[u8; 64], count: usize) -> bool
-    requires { count ≤ 64 }
-    ensures { result ≡ gap resource.now count }
+#[tactic(auto, unfolding(crate::specs::Rules::gap, crate::specs::Rules::has_no_line))]
+pub fn has_gap(cell: &Cell) -> bool
+    requires { cell.now.count ≤ 64 }
+    ensures { result ≡ gap cell.now.resource cell.now.count }
 {
-    let most = greatest(resource, count);
-    let mut k = 0;
-    while k < most {
-        if !has_line(resource, count, k) {
-            return true;
-        }
-        k += 1;
-    }
-    false
+    search::any_below(greatest(cell) as usize, |k| !has_line(cell, k))
 }

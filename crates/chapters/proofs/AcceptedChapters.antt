@@ -7,19 +7,23 @@ use native.Mathlib.Omega.{arith}
 use lib.ListN.{length}
 use lib.Dec.{eqb, ltb}
 use borrow.Author.Tests.{eqb-false, ne_eqb, ltb-true, ltb-false, lt-ltb, le-ltb}
+use Rattle.std.specs.Prelude.{Result, Ok}
+use Rattle.refusals.specs.declared.Broken.{Broken}
 use Rattle.refusals.specs.declared.Refusal.TheVariants as refusal
-use Rattle.refusals.specs.declared.Verdict.TheVariants.{Accepted}
-use Rattle.refusals.specs.Verdict.{first_refusal}
+use Rattle.refusals.specs.Search.{first_below}
+use Rattle.refusals.specs.Verdict.{Accepted, first_refusal}
 use Rattle.refusals.proofs.Rules.{first_accepts, rest_accepts, left_accepts, right_accepts, accepts, decides, part_accepts}
 use Rattle.refusals.proofs.EveryBelow.{any_none}
-use Rattle.refusals.proofs.Verdicts.{or_left, or_right, no_line_kept, no_line_accepts}
+use Rattle.refusals.proofs.Verdicts.{or_left, or_right, no_line_kept, no_line_accepts, count_in_range}
 use Rattle.cell.specs.declared.Cell.{Cell}
 use Rattle.cell.specs.Rules.{cell_rules, check_cell}
 use Rattle.recipe.specs.declared.Recipe.{Recipe}
-use Rattle.recipe.specs.Rules.{recipe_rules, check_recipe}
+use Rattle.recipe.specs.Rules.{breaks_order, point_count, recipe_rules, check_recipe}
+use Rattle.recipe.proofs.AcceptedRecord.{each_accepts}
+use Rattle.recipe.proofs.PointOrder.{ordered_all}
 use Rattle.positions.specs.declared.Sizes.{Sizes}
 use Rattle.positions.specs.Sizes.{sizes_for, with_points}
-use Rattle.positions.proofs.SizeBounds.{with_points_lem}
+use Rattle.positions.proofs.SizeBounds.{with_points_lem, point_below}
 use Rattle.steps.specs.Lines.{kind_of}
 use Rattle.reached.specs.Reached.{rule22}
 use Rattle.chapters.specs.declared.Seen.{Seen}
@@ -77,6 +81,25 @@ module _ (plans earlier : Bool) (r : Recipe) where
       decide true e = sym (C.reached e)
       decide false e = refl
 
+-- a recipe that its rules accept has a point, and a chapter that its rules accept has lines, in order
+pub point_some : {done : Unit} (r : Recipe) → check_recipe r ≡ Ok done → 0 < point_count r.point r.count
+point_some r passes =
+    let some : 0 < r.count = (count_in_range r.count (each_accepts r passes).third).some in
+    omega (arith, point_below r passes 0 some)
+
+module _ (plans earlier : Bool) {done : Unit} (r : Recipe) (accepted : first_refusal (chapter_rules plans earlier r) ≡ Ok done) where
+  passes : check_recipe r ≡ Accepted
+  passes = (chapter_accepted plans earlier r accepted).recipe_passes
+
+  pub chapter_some : 0 < r.count
+  chapter_some = (count_in_range r.count (each_accepts r passes).third).some
+
+  pub chapter_most : r.count ≤ 64
+  chapter_most = (count_in_range r.count (each_accepts r passes).third).most
+
+  pub chapter_ordered : first_below (breaks_order r.point) r.count ≡ r.count
+  chapter_ordered = ordered_all r (each_accepts r passes).seventh
+
 -- what a cell and chapters have that the rules before 13 accept
 pub record RecordsAccepted (plans : Bool) (c : Cell) (rs : Chapters) : Type 0 where
   pub some : 1 ≤ length rs
@@ -93,6 +116,9 @@ number_kept number accepted =
     let no : (eqb number 0 || ltb 8 number) ≡ false = no_line_accepts refusal.Chapters _ accepted in
     let some : number ≡ 0 → ⊥ = eqb-false number 0 (search or_left) in
     (omega arith, ltb-false 8 number (search or_right))
+
+pub number_few : {done : Unit} (number : ℕ) → rule24 number ≡ Ok done → number ≤ 8
+number_few number accepted = (number_kept number accepted).1
 
 -- and it accepts 1 to 8
 kept_number : (number : ℕ) → 1 ≤ number → number ≤ 8 → rule24 number ≡ Accepted
@@ -204,10 +230,10 @@ module _ (c : Cell) (rs : Chapters) (zs : Measures) (checked : AllChecked c rs z
 
 -- what is seen of a recipe is seen of the chapter that has it
 pub seen_at :
-    (rs : Chapters) (k : ℕ) {plans earlier : Bool} {r : Recipe} {s : Seen}
+    (rs : Chapters) (k : ℕ) (plans : Bool) {earlier : Bool} {r : Recipe} (s : Result Seen Broken)
     → earlier ≡ is_earlier rs k
     → r ≡ chapter_at rs k
     → Sees plans earlier r s
     → SeesAt plans rs k s
-seen_at rs k {plans} {r = r} {s} here is sees =
+seen_at rs k plans {r = r} s here is sees =
     subst (λ (x : Recipe). Sees plans (is_earlier rs k) x s) is (subst (λ (b : Bool). Sees plans b r s) here sees)

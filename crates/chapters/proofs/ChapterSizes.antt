@@ -9,9 +9,8 @@ use lib.ListN.{length, get_or-eq_default}
 use lib.Dec.{ltb}
 use borrow.Author.Tests.{ltb-false}
 use Rattle.refusals.specs.declared.Refusal.TheVariants.{TooManyPositions}
-use Rattle.refusals.specs.declared.Verdict.TheVariants.{Accepted}
+use Rattle.refusals.specs.Verdict.{Accepted, no_line}
 use Rattle.refusals.specs.Search.{count_below, greatest_below}
-use Rattle.refusals.specs.Verdict.{no_line}
 use Rattle.refusals.proofs.Scan.{greatest_at, greatest_within}
 use Rattle.refusals.proofs.EveryBelow.{any_not}
 use Rattle.refusals.proofs.Verdicts.{no_line_accepts}

@@ -8,29 +8,29 @@ use native.Mathlib.Omega.{arith}
 use lib.ListN.{length}
 use lib.Dec.{eqb, ltb}
 use borrow.Author.Tests.{eq-eqb, ne_eqb, lt-ltb, le-ltb}
-use Rattle.refusals.specs.declared.Refusal.{Refusal}
-use Rattle.refusals.specs.declared.Verdict.{Verdict}
-use Rattle.refusals.specs.declared.Verdict.TheVariants.{Accepted, Refused}
+use Rattle.std.specs.Prelude.{Result, Ok, Err}
+use Rattle.refusals.specs.declared.Broken.{Broken}
+use Rattle.refusals.specs.Verdict.{Verdict, Accepted, first_refusal}
 use Rattle.refusals.specs.Search.{greatest_below}
-use Rattle.refusals.specs.Verdict.{first_refusal}
-use Rattle.refusals.proofs.Verdicts.{refused_not}
+use Rattle.refusals.proofs.Rules.{tried_ok, part_ok}
+use Rattle.cell.specs.declared.Cell.{Cell}
+use Rattle.cell.specs.Rules.{cell_rules}
 use Rattle.recipe.specs.Rules.{check_recipe}
 use Rattle.positions.specs.Radix.{sum_below}
 use Rattle.positions.specs.Sizes.{parts_of}
 use Rattle.positions.proofs.SizeBounds.{points_sixteen}
-use Rattle.chapters.specs.declared.counts.Counts.{Counts}
 use Rattle.chapters.specs.declared.Survey.{Survey}
 use Rattle.chapters.specs.Joined.{Chapters, chapter_at, is_earlier}
 use Rattle.chapters.specs.Sizes.{points_at, parts_in}
-use Rattle.chapters.specs.Rules.{chapter_rules, in_turn, chapters_rules}
-use Rattle.chapters.specs.Survey.{Counted, Surveyed, counted_with}
+use Rattle.chapters.specs.Rules.{rule24, chapter_rules, in_turn, chapters_rules, record_rules}
+use Rattle.chapters.specs.Survey.{Surveyed, Tried, counted_with}
 use Rattle.chapters.proofs.ValuesBelow.{sum_most}
 use Rattle.chapters.proofs.RulesInTurn.{turn_at, turn_accepts}
 use Rattle.chapters.proofs.AcceptedChapters.{chapter_accepted}
 use Rattle.chapters.proofs.ChapterSizes.{no_points}
 
 -- the first k chapters pass and are counted, the one that is wanted among them if it is one of them
-pub record SoFar (plans : Bool) (rs : Chapters) (wanted k : ℕ) (counts : Counts) : Type 0 where
+pub record SoFar (plans : Bool) (rs : Chapters) (wanted k : ℕ) (counts : Survey) : Type 0 where
   pub few : k ≤ length rs
   pub accepted : first_refusal (in_turn (λ i. chapter_rules plans (is_earlier rs i) (chapter_at rs i)) k) ≡ Accepted
   pub own_is : wanted < k → counts.own ≡ points_at rs wanted
@@ -42,7 +42,7 @@ pub record SoFar (plans : Bool) (rs : Chapters) (wanted k : ℕ) (counts : Count
   pub parts_is : counts.parts ≡ greatest_below (λ i. parts_of (chapter_at rs i)) k
 
 -- nothing is counted
-abbrev pub no_counts : Counts
+abbrev pub no_counts : Survey
 no_counts = record { own = 0; before = 0; all = 0; most = 0; parts = 0 }
 
 module _ (plans : Bool) (rs : Chapters) (wanted : ℕ) where
@@ -64,7 +64,7 @@ module _ (plans : Bool) (rs : Chapters) (wanted : ℕ) where
         parts_is = refl;
       }
 
-  module _ (k : ℕ) (counts : Counts) (S : SoFar plans rs wanted k counts) where
+  module _ (k : ℕ) (counts : Survey) (S : SoFar plans rs wanted k counts) where
     -- each chapter so far passes
     passes : (i : ℕ) → i < k → check_recipe (chapter_at rs i) ≡ Accepted
     passes i low =
@@ -120,28 +120,18 @@ module _ (plans : Bool) (rs : Chapters) (wanted : ℕ) where
             (ap (λ (n : ℕ). n + points_at rs k) (S.before_all (omega arith)) ∙ ap (sum_below (points_at rs)) next)
 
     -- all chapters are counted
-    pub counted_all : k ≡ length rs
-        → Surveyed plans rs wanted
-        (record {
-          verdict = Accepted;
-          own = counts.own;
-          before = counts.before;
-          all = counts.all;
-          most = counts.most;
-          parts = counts.parts;
-        })
+    pub counted_all : k ≡ length rs → Surveyed plans rs wanted (Ok counts)
     unfolding chapters_rules parts_in
-    counted_all end =
-        record {
-          told = sym S.accepted ∙ ap (λ (n : ℕ). first_refusal (in_turn rules n)) end;
-          counted = λ accepted. record {
-            own_is = wanted_points (dec_lt wanted k);
-            before_is = λ there. S.before_is (omega arith);
-            all_is = S.all_is ∙ ap (sum_below (points_at rs)) end;
-            most_is = S.most_is ∙ ap (greatest_below (points_at rs)) end;
-            parts_is = S.parts_is ∙ ap (greatest_below (λ i. parts_of (chapter_at rs i))) end;
-          };
-        }
+    counted_all end = (
+      sym (ap (λ (n : ℕ). first_refusal (in_turn rules n)) end) ∙ S.accepted,
+      record {
+        own_is = wanted_points (dec_lt wanted k);
+        before_is = λ there. S.before_is (omega arith);
+        all_is = S.all_is ∙ ap (sum_below (points_at rs)) end;
+        most_is = S.most_is ∙ ap (greatest_below (points_at rs)) end;
+        parts_is = S.parts_is ∙ ap (greatest_below (λ i. parts_of (chapter_at rs i))) end;
+      },
+    )
       where
         rules : ℕ → List Verdict
         rules i = chapter_rules plans (is_earlier rs i) (chapter_at rs i)
@@ -150,11 +140,19 @@ module _ (plans : Bool) (rs : Chapters) (wanted : ℕ) where
         wanted_points (yes low) = S.own_is low
         wanted_points (no past) = S.own_none (omega arith) ∙ sym (no_points rs wanted (omega arith))
 
--- a survey that a rule ended says nothing of what was counted
-pub not_counted :
-    (rs : Chapters) (wanted : ℕ) {s : Survey} {v : Verdict} {refusal : Refusal} {line : ℕ}
-    → s.verdict ≡ v
-    → v ≡ Refused refusal line
-    → s.verdict ≡ Accepted
-    → Counted rs wanted s
-not_counted rs wanted is told accepted = absurd (refused_not told (sym is ∙ accepted))
+-- where the rules on the number and on the cell accept, what the chapters' rules leave is what all leave
+pub tried_all :
+    (plans : Bool) (c : Cell) (rs : Chapters) (wanted : ℕ) (s : Result Survey Broken)
+    → rule24 (length rs) ≡ Accepted
+    → first_refusal (cell_rules c) ≡ Accepted
+    → Surveyed plans rs wanted s
+    → Tried plans c rs wanted s
+unfolding record_rules
+tried_all plans c rs wanted s number cell surveyed = decide s surveyed
+  where
+    same : first_refusal (record_rules plans c rs) ≡ first_refusal (chapters_rules plans rs)
+    same = tried_ok _ _ number ∙ part_ok (cell_rules c) _ cell
+
+    decide : (r : Result Survey Broken) → Surveyed plans rs wanted r → Tried plans c rs wanted r
+    decide (Ok survey) found = (same ∙ found.0, found.1)
+    decide (Err broken) refused = same ∙ refused

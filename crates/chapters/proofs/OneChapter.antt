@@ -7,10 +7,9 @@ use native.Mathlib.Nat.{max-zero}
 use native.Mathlib.Omega.{arith}
 use lib.Dec.{ltb}
 use Rattle.refusals.specs.declared.Refusal.TheVariants.{TooManyPositions, TooShort}
-use Rattle.refusals.specs.declared.Verdict.{Verdict}
-use Rattle.refusals.specs.declared.Verdict.TheVariants.{Accepted, Refused}
+use Rattle.std.specs.Prelude.{Err}
+use Rattle.refusals.specs.Verdict.{Verdict, Accepted, first_refusal, no_line}
 use Rattle.refusals.specs.Search.{any_below, greatest_below}
-use Rattle.refusals.specs.Verdict.{first_refusal, no_line}
 use Rattle.cell.specs.declared.Cell.{Cell}
 use Rattle.cell.specs.Rules.{cell_rules}
 use Rattle.recipe.specs.declared.Recipe.{Recipe}
@@ -33,7 +32,7 @@ idle : (rules rest : List Verdict) → first_refusal (rules ++ (Accepted ∷ res
 unfolding first_refusal
 idle [] rest = refl
 idle (Accepted ∷ rules) rest = idle rules rest
-idle (Refused refusal line ∷ rules) rest = refl
+idle (Err broken ∷ rules) rest = refl
 
 -- the first table begins at the start, and alone it is all of the lent one
 pub begins_first : (zs : Measures) → begins zs 0 ≡ 0

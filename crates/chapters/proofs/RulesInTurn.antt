@@ -1,35 +1,33 @@
 -- Lists of rules tried one after another. Assumes nothing.
-use mathlib.Core.Path.{◌≡◌, refl, sym, subst}
+use mathlib.Core.Path.{◌≡◌, refl, sym, subst, ◌∙◌}
 use mathlib.Core.Logic.{⊎_elim}
 use mathlib.Core.List.{List}
 use Prim.Native.Nat.{ℕ, zero, suc, ◌<◌}
 use native.Mathlib.Nat.{le_of_suc-le-suc, eq-or-lt_of_le, not-suc-le-zero}
 use native.Mathlib.Omega.{arith}
-use Rattle.refusals.specs.declared.Refusal.{Refusal}
-use Rattle.refusals.specs.declared.Verdict.{Verdict}
-use Rattle.refusals.specs.declared.Verdict.TheVariants.{Accepted, Refused}
-use Rattle.refusals.specs.Verdict.{first_refusal}
-use Rattle.refusals.proofs.Rules.{left_accepts, right_accepts, part_refuses, part_accepts}
+use Rattle.std.specs.Prelude.{Err}
+use Rattle.refusals.specs.declared.Broken.{Broken}
+use Rattle.refusals.specs.Verdict.{Verdict, Accepted, first_refusal}
+use Rattle.refusals.proofs.Rules.{left_accepts, right_accepts, part_accepts, part_err, part_ok}
 use Rattle.chapters.specs.Rules.{in_turn}
 
 module _ (rules : ℕ → List Verdict) where
-  -- where the first k lists accept and the next refuses, that is the verdict of any number that has this one
+  -- where the first k lists accept and the next refuses, that is the refusal of any number that has this one
   pub turn_refuses :
-      (k n : ℕ) {v : Verdict} {refusal : Refusal} {line : ℕ}
+      (k n : ℕ) {e : Broken}
       → k < n
       → first_refusal (in_turn rules k) ≡ Accepted
-      → v ≡ first_refusal (rules k)
-      → v ≡ Refused refusal line
-      → v ≡ first_refusal (in_turn rules n)
+      → first_refusal (rules k) ≡ Err e
+      → first_refusal (in_turn rules n) ≡ Err e
   unfolding in_turn
-  turn_refuses k zero low before here told = absurd (not-suc-le-zero low)
-  turn_refuses k (suc n) {v} low before here told =
-      ⊎_elim last (λ lt. part_refuses (in_turn rules n) (rules n) (turn_refuses k n lt before here told) told) (eq-or-lt_of_le (le_of_suc-le-suc low))
+  turn_refuses k zero low before here = absurd (not-suc-le-zero low)
+  turn_refuses k (suc n) {e} low before here =
+      ⊎_elim last (λ lt. part_err (in_turn rules n) (rules n) (turn_refuses k n lt before here)) (eq-or-lt_of_le (le_of_suc-le-suc low))
     where
-      last : k ≡ n → v ≡ first_refusal (in_turn rules (suc n))
-      last e =
-          subst (λ (m : ℕ). v ≡ first_refusal (in_turn rules (suc m))) e
-          (part_accepts (in_turn rules k) (rules k) refl before here)
+      last : k ≡ n → first_refusal (in_turn rules (suc n)) ≡ Err e
+      last is =
+          subst (λ (m : ℕ). first_refusal (in_turn rules (suc m)) ≡ Err e) is
+          (part_ok (in_turn rules k) (rules k) before ∙ here)
 
   -- and where it accepts, one more has accepted
   pub turn_accepts :

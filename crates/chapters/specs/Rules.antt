@@ -1,10 +1,8 @@
 -- The rules on a cell and chapters, and those from 13 on that look at their sizes. Assumes nothing.
 use Rattle.std.specs.Prelude.{Bool, false, cond, not, ◌&&◌, ◌||◌, List, [], ◌∷◌, ◌++◌, ℕ, zero, suc, ◌+◌, ◌/◌, length, eqb, ltb}
-use Rattle.refusals.specs.declared.Verdict.{Verdict}
-use Rattle.refusals.specs.declared.Verdict.TheVariants.{Accepted}
+use Rattle.refusals.specs.Verdict.{Verdict, Accepted, first_refusal, no_line}
 use Rattle.refusals.specs.declared.Refusal.TheVariants.{TooManyPositions, TooShort, RunRange, Chapters}
 use Rattle.refusals.specs.Search.{any_below, greatest_below}
-use Rattle.refusals.specs.Verdict.{first_refusal, no_line}
 use Rattle.cell.specs.declared.Cell.{Cell}
 use Rattle.cell.specs.Rules.{cell_rules}
 use Rattle.recipe.specs.declared.Recipe.{Recipe}

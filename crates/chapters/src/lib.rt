@@ -12,24 +12,22 @@ ghost use Rattle.chapters.specs.Survey.{Sees, SeesAt, Tried};
 
 use cell::Cell;
 use recipe::Recipe;
-use refusals::Verdict;
+use refusals::{Broken, Verdict};
 
 // The bytes of a recipe record.
 const RECORD: usize = 449;
 
-// What is seen of one chapter: the verdict of its rules and, if these accept, its numbers of points and of parts.
+// What is seen of one chapter that its rules accept: its numbers of points and of parts.
 #[derive(Clone, Copy)]
 pub struct Seen {
-    pub verdict: Verdict,
     pub points: usize,
     pub parts: usize,
 }
 
-// What is found out while the rules on chapters are tried: the numbers of points of the chapter that is wanted, of those before it,
-// of all, and of the one that has most; and the parts. Of a chapter that isn't there, no points.
+// What is counted of chapters that their rules accept: the numbers of points of the chapter that is wanted, of those before it, of
+// all, and of the one that has most; and the parts. Of a chapter that isn't there, no points.
 #[derive(Clone, Copy)]
 pub struct Survey {
-    pub verdict: Verdict,
     pub own: usize,
     pub before: usize,
     pub all: usize,
@@ -38,6 +36,7 @@ pub struct Survey {
 }
 
 // How many chapters the bytes hold.
+#[tactic(auto, using(crate::proofs::ChapterBytes::chapters_length))]
 pub fn number(recipes: &[u8]) -> usize
     ensures { result ≡ length (chapters_from recipes.now) }
 {
@@ -48,22 +47,16 @@ pub fn number(recipes: &[u8]) -> usize
 pub fn last(recipes: &[u8]) -> usize
     ensures { result ≡ length (chapters_from recipes.now) - 1 }
 {
-    let number = number(recipes);
-    if number == 0 {
-        return 0;
-    }
-    number - 1
+    number(recipes).saturating_sub(1)
 }
 
 // Whether another chapter follows chapter k.
+#[tactic(auto, unfolding(crate::specs::Joined::is_earlier))]
 pub fn is_earlier(recipes: &[u8], k: usize) -> bool
     ensures { result ≡ is_earlier (chapters_from recipes.now) k }
 {
     let number = number(recipes);
-    if number <= k {
-        return false;
-    }
-    k + 1 < number
+    k < number && k + 1 < number
 }
 
 // Chapter k; one that isn't there has no lines.
@@ -78,42 +71,32 @@ pub fn chapter(recipes: &[u8], k: usize) -> Recipe
 }
 
 // Looks at one chapter, of which it is told whether another follows.
-pub fn look(recipe: Recipe, plans: bool, earlier: bool) -> Seen
+#[tactic(auto, using(crate::proofs::AcceptedChapters::chapter_some, crate::proofs::AcceptedChapters::chapter_most, crate::proofs::AcceptedChapters::chapter_ordered))]
+pub fn look(recipe: Recipe, plans: bool, earlier: bool) -> Result<Seen, Broken>
     ensures { Sees plans earlier recipe result }
 {
-    let verdict = rules::check_chapter(recipe, plans, earlier);
-    let Verdict::Accepted = verdict else {
-        return Seen {
-            verdict,
-            points: 0,
-            parts: 0,
-        };
-    };
-    let point = recipe.point;
-    let points = recipe::points::point_count(&point, recipe.count);
+    rules::check_chapter(&recipe, plans, earlier)?;
+    let points = recipe::points::point_count(&recipe);
     let parts = positions::parts::part_count(recipe);
-    Seen {
-        verdict,
-        points,
-        parts,
-    }
+    Ok(Seen { points, parts })
 }
 
 // Rule 24 on the number, the cell's rules, and those of each chapter, whatever is in them. The wanted chapter was looked at by the
 // caller, who has its recipe at hand.
-pub fn check_records(cell: Cell, recipes: &[u8], plans: bool, wanted: usize, seen: Seen) -> Survey
+#[tactic(auto, using(refusals::proofs::Rules::tried, refusals::proofs::Rules::part_err, crate::proofs::AcceptedChapters::number_few, crate::proofs::CountedChapters::tried_all), unfolding(crate::specs::Rules::record_rules, cell::specs::Rules::check_cell))]
+pub fn check_records(
+    cell: Cell,
+    recipes: &[u8],
+    plans: bool,
+    wanted: usize,
+    seen: Result<Seen, Broken>,
+) -> Result<Survey, Broken>
     requires { SeesAt plans (chapters_from recipes.now) wanted seen }
     ensures { Tried plans cell (chapters_from recipes.now) wanted result }
 {
     let chapters = number(recipes);
-    let numbered = rules::check_number(chapters);
-    let Verdict::Accepted = numbered else {
-        return counts::refused(numbered);
-    };
-    let checked = cell::check_cell(cell);
-    let Verdict::Accepted = checked else {
-        return counts::refused(checked);
-    };
+    rules::check_number(chapters)?;
+    cell::check_cell(cell)?;
     counts::survey(recipes, chapters, plans, wanted, seen)
 }
 
@@ -122,10 +105,6 @@ pub fn check(cell: Cell, recipes: &[u8]) -> Verdict
     ensures { result ≡ check_sizes cell (chapters_from recipes.now) }
 {
     let seen = look(chapter(recipes, 0), false, is_earlier(recipes, 0));
-    let found = check_records(cell, recipes, false, 0, seen);
-    let verdict = found.verdict;
-    let Verdict::Accepted = verdict else {
-        return verdict;
-    };
-    positions::check_size(positions::measure_for(cell, found.most, found.parts))
+    let survey = check_records(cell, recipes, false, 0, seen)?;
+    positions::check_size(positions::measure_for(cell, survey.most, survey.parts))
 }

@@ -7,36 +7,24 @@ use recipe::Recipe;
 use refusals::{Refusal, Verdict};
 
 // Rule 24 on the number of chapters.
+#[tactic(auto, unfolding(crate::specs::Rules::rule24))]
 pub fn check_number(number: usize) -> Verdict
     ensures { result ≡ rule24 number }
 {
-    if number == 0 {
-        return Verdict::Refused(Refusal::Chapters, 0);
-    }
-    if 8 < number {
-        return Verdict::Refused(Refusal::Chapters, 0);
-    }
-    Verdict::Accepted
+    refusals::no_line(Refusal::Chapters, number == 0 || 8 < number)
 }
 
 // The rules on one chapter: its own, 22 for a call that plans, and 24 if another chapter follows.
-pub fn check_chapter(recipe: Recipe, plans: bool, earlier: bool) -> Verdict
-    ensures { result ≡ first_refusal (chapter_rules plans earlier recipe) }
+#[tactic(auto, using(refusals::proofs::Rules::tried, refusals::proofs::Rules::part_err, refusals::proofs::Rules::part_ok, crate::proofs::AcceptedChapters::point_some), unfolding(crate::specs::Rules::chapter_rules, crate::specs::Rules::rule24_joint, recipe::specs::Rules::check_recipe))]
+pub fn check_chapter(recipe: &Recipe, plans: bool, earlier: bool) -> Verdict
+    ensures { result ≡ first_refusal (chapter_rules plans earlier recipe.now) }
 {
-    let checked = recipe::check_recipe(recipe);
-    let Verdict::Accepted = checked else {
-        return checked;
-    };
+    recipe::check_recipe(*recipe)?;
     if plans {
-        let reached = reached::check_points(recipe);
-        let Verdict::Accepted = reached else {
-            return reached;
-        };
+        reached::check_points(*recipe)?;
     }
-    if earlier {
-        if steps::point_kind(recipe, 0) == 0 {
-            return Verdict::Refused(Refusal::Chapters, 0);
-        }
-    }
-    Verdict::Accepted
+    refusals::no_line(
+        Refusal::Chapters,
+        earlier && steps::point_kind(*recipe, 0) == recipe::END,
+    )
 }

@@ -1,14 +1,15 @@
 -- The answers of the install call, by the rule at which it stops. Assumes nothing.
-use mathlib.Core.Path.{◌≡◌, refl, sym, ◌∙◌}
+use mathlib.Core.Path.{◌≡◌, refl, sym}
 use mathlib.Core.List.{List, [], ◌∷◌}
 use Prim.Native.Nat.{ℕ, ◌*◌, ◌<◌, ◌≤◌}
 use native.Mathlib.Omega.{arith}
 use lib.ListN.{length}
 use borrow.Author.Tests.{le-leb, lt-leb}
+use Rattle.std.specs.Prelude.{Ok, Err}
+use Rattle.refusals.specs.declared.Broken.{Broken}
 use Rattle.refusals.specs.declared.Refusal.{Refusal}
 use Rattle.refusals.specs.declared.Refusal.TheVariants.{FullCell}
-use Rattle.refusals.specs.declared.Verdict.{Verdict}
-use Rattle.refusals.specs.declared.Verdict.TheVariants.{Accepted, Refused}
+use Rattle.refusals.specs.Verdict.{Verdict, Accepted, Refused}
 use Rattle.refusals.proofs.Verdicts.{refused_not, no_line_broken, no_line_kept}
 use Rattle.refusals.proofs.Rules.{refuses, accepts, decides}
 use Rattle.cell.specs.declared.Cell.{Cell}
@@ -16,7 +17,7 @@ use Rattle.recipe.specs.declared.Recipe.{Recipe}
 use Rattle.positions.specs.declared.Sizes.{Sizes}
 use Rattle.simulation.specs.Simulation.{Realisable}
 use Rattle.planner.specs.Call.{check_plan}
-use Rattle.install.specs.Call.{rule21, check_install, InstallCall}
+use Rattle.install.specs.Call.{rule21, check_install, listing_of, InstallCall}
 use Rattle.install.specs.Search.{Asked, SoFar}
 use Rattle.install.proofs.FilledList.{filled_none}
 use Rattle.install.proofs.ListedSoFar.{so_far_all}
@@ -39,19 +40,19 @@ module _ (c : Cell) (r : Recipe) (table scratch : ℕ) where
 
 module _ (c : Cell) (r : Recipe) (table scratch list : List ℕ) where
   pub install_refused :
-      {v : Verdict} {refusal : Refusal} {line : ℕ}
-      → v ≡ check_install c r (length table) (length scratch)
-      → v ≡ Refused refusal line
-      → InstallCall c r table scratch list table scratch list (record { verdict = v; count = 0 })
-  install_refused e told =
+      {e : Broken}
+      → check_install c r (length table) (length scratch) ≡ Err e
+      → InstallCall c r table scratch list table scratch list (listing_of (Err e))
+  unfolding listing_of
+  install_refused told =
       record {
         lines = [];
-        verdict_is = e;
+        verdict_is = sym told;
         count_is = refl;
         few = omega arith;
         list_is = sym (filled_none list);
         none_needed = λ realisable. refl;
-        listed = λ accepted. absurd (refused_not told (e ∙ accepted));
+        listed = λ accepted. absurd (refused_not told accepted);
         none_refused = λ refused. refl;
         untouched = λ refused. (refl, refl);
         same_table = refl;
@@ -61,7 +62,8 @@ module _ (c : Cell) (r : Recipe) (table scratch list : List ℕ) where
   -- the rules accept: table and scratch end with free content
   module _ {table' scratch' : List ℕ} (accepted : check_install c r (length table) (length scratch) ≡ Accepted)
       (same_table : length table' ≡ length table) (same_scratch : length scratch' ≡ length scratch) where
-    pub install_none : Realisable c (r ∷ []) → InstallCall c r table scratch list table' scratch' list (record { verdict = Accepted; count = 0 })
+    pub install_none : Realisable c (r ∷ []) → InstallCall c r table scratch list table' scratch' list (listing_of (Ok 0))
+    unfolding listing_of
     install_none realisable =
         record {
           lines = [];
@@ -84,7 +86,8 @@ module _ (c : Cell) (r : Recipe) (table scratch list : List ℕ) where
         → {found : ℕ} {list' : List ℕ}
         → found ≤ 24576
         → SoFar c r list (4096 * z.resources) found list'
-        → InstallCall c r table scratch list table' scratch' list' (record { verdict = Accepted; count = found })
+        → InstallCall c r table scratch list table' scratch' list' (listing_of (Ok found))
+    unfolding listing_of
     install_listed z A lacks few F =
         record {
           lines = F.lines;

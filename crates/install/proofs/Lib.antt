@@ -6,7 +6,6 @@ pub mod FilledList
 mod NamedOperations
 pub mod CandidateLines
 mod LookedLines
-mod NextCandidate
 mod GatheredLines
 pub mod GroupsOfLines
 mod ListedSoFar

@@ -14,7 +14,8 @@ use Rattle.positions.specs.Sizes.{resource_count, state_count, sizes_for}
 use Rattle.positions.proofs.SizeBounds.{resources_six, count_at}
 use Rattle.positions.proofs.LongerSizes.{Suits}
 use Rattle.install.specs.Candidates.{is_named, is_in_cell, is_candidate}
-use Rattle.install.specs.Search.{line_at, is_tried, Question, Looked, looked_found, looked_past}
+use Rattle.install.specs.Search.{line_at, is_tried, Question, Looked}
+use Rattle.install.specs.declared.candidates.Look.TheVariants.{Candidate, Past}
 use Rattle.install.proofs.CandidateLines.{candidate_suits, candidate_named, candidate_new, own_resources, is_candidate_lem}
 
 never : (b : Bool) → (b ≡ true → ⊥) → b ≡ false
@@ -64,21 +65,19 @@ module _ (c : Cell) (r : Recipe) (z : Sizes) (named : List Bool) (Q : Question c
     unfolding is_tried
     tried_suits m = candidate_suits c r z Q.asked.checked (line_at m)
 
-    pub look_from : get_or z.states l.resource 0 ≤ l.from → Looked c r n ((n / 512 + 1) * 512)
+    pub look_from : get_or z.states l.resource 0 ≤ l.from → Looked c r n (Past ((n / 512 + 1) * 512))
     unfolding line_at
     look_from past =
-        looked_past (omega arith)
-        (λ m least most. never _
+        λ m least most. never _
         (λ tried.
         let row : m / 512 ≡ n / 512 = omega arith in
         let same : m / 4096 ≡ n / 4096 = omega (arith, div-div-eq-div-mul m 512 8, div-div-eq-div-mul n 512 8) in
-        omega (arith, (tried_suits m tried).from, same_states m same, from_is l n is)))
+        omega (arith, (tried_suits m tried).from, same_states m same, from_is l n is))
 
-    pub look_named : get_or named l.operation false ≡ false → Looked c r n ((n / 8 + 1) * 8)
+    pub look_named : get_or named l.operation false ≡ false → Looked c r n (Past ((n / 8 + 1) * 8))
     unfolding line_at is_tried
     look_named none =
-        looked_past (omega arith)
-        (λ m least most. never _
+        λ m least most. never _
         (λ tried.
         let row : m / 8 ≡ n / 8 = omega arith in
         let few : l.operation < 64 = omega (arith, operation_is l n is) in
@@ -87,37 +86,34 @@ module _ (c : Cell) (r : Recipe) (z : Sizes) (named : List Bool) (Q : Question c
         (sym (candidate_named c r z Q.asked.checked (line_at m) tried)
         ∙ ap (is_named r) (sym same)
         ∙ sym (Q.names l.operation few)
-        ∙ none)))
+        ∙ none))
 
-    pub look_to : get_or z.states l.resource 0 ≤ l.to → Looked c r n ((n / 8 + 1) * 8)
+    pub look_to : get_or z.states l.resource 0 ≤ l.to → Looked c r n (Past ((n / 8 + 1) * 8))
     unfolding line_at
     look_to past =
-        looked_past (omega arith)
-        (λ m least most. never _
+        λ m least most. never _
         (λ tried.
         let row : m / 8 ≡ n / 8 = omega arith in
         let same : m / 4096 ≡ n / 4096 = omega (arith, div-div-eq-div-mul m 8 512, div-div-eq-div-mul n 8 512) in
-        omega (arith, (tried_suits m tried).to, same_states m same, to_is l n is)))
+        omega (arith, (tried_suits m tried).to, same_states m same, to_is l n is))
 
-    pub look_there : is_in_cell c l ≡ true → Looked c r n (n + 1)
+    pub look_there : is_in_cell c l ≡ true → Looked c r n (Past (n + 1))
     unfolding is_tried
     look_there there =
-        looked_past (omega arith)
-        (λ m least most. never _
+        λ m least most. never _
         (λ tried.
         let same : l ≡ line_at m = is ∙ ap line_at (omega arith) in
-        true≢false (sym there ∙ ap (is_in_cell c) same ∙ candidate_new c r z Q.asked.checked (line_at m) tried)))
+        true≢false (sym there ∙ ap (is_in_cell c) same ∙ candidate_new c r z Q.asked.checked (line_at m) tried))
 
     pub look_found :
         l.from < get_or z.states l.resource 0
         → get_or named l.operation false ≡ true
         → l.to < get_or z.states l.resource 0
         → is_in_cell c l ≡ false
-        → Looked c r n n
+        → Looked c r n Candidate
     unfolding is_tried
     look_found from names to new =
-        looked_found refl
-        (subst (λ (m : OperationLine). is_candidate c r m ≡ true) is
+        subst (λ (m : OperationLine). is_candidate c r m ≡ true) is
         (is_candidate_lem c r l
         (record {
           resource = omega (arith, resource_is l n is, resources_are);
@@ -126,4 +122,4 @@ module _ (c : Cell) (r : Recipe) (z : Sizes) (named : List Bool) (Q : Question c
           operation = omega (arith, operation_is l n is);
         })
         (sym (Q.names l.operation (omega (arith, operation_is l n is))) ∙ names)
-        new))
+        new)

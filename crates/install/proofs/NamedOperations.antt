@@ -1,6 +1,6 @@
 -- Which operations the lines of a recipe before line n name. Assumes nothing.
-use mathlib.Core.Path.{◌≡◌, refl, sym, ap, subst, ◌∙◌}
-use mathlib.Core.Bool.{Bool, true, false, cond, not, ◌&&◌}
+use mathlib.Core.Path.{◌≡◌, refl, sym, ap, ◌∙◌}
+use mathlib.Core.Bool.{Bool, true, false, not, ◌&&◌}
 use mathlib.Core.List.{List}
 use Prim.Native.Nat.{ℕ, ◌+◌, ◌<◌}
 use native.Mathlib.Decide.{ℕ_discrete}
@@ -28,11 +28,11 @@ module _ (kind op : List ℕ) where
 
   -- a line that names nothing, and one that names an operation
   module _ (n : ℕ) (named : List Bool) (N : NamedBy n named) where
-    named_end : eqb (get_or kind n 0) 0 ≡ true → NamedBy (n + 1) named
+    pub named_end : get_or kind n 0 ≡ 0 → NamedBy (n + 1) named
     unfolding any_below
-    named_end e = record { whole = N.whole; each = λ o low. N.each o low ∙ rw (add-one n, e) }
+    named_end e = record { whole = N.whole; each = λ o low. N.each o low ∙ rw (add-one n, eq-eqb (get_or kind n 0) 0 e) }
 
-    named_one : eqb (get_or kind n 0) 0 ≡ false → get_or op n 0 < 64 → NamedBy (n + 1) (set named (get_or op n 0) true)
+    pub named_one : (get_or kind n 0 ≡ 0 → ⊥) → get_or op n 0 < 64 → NamedBy (n + 1) (set named (get_or op n 0) true)
     unfolding any_below
     named_one e few = record { whole = length-set named (get_or op n 0) true ∙ N.whole; each = λ o low. at o low (ℕ_discrete o (get_or op n 0)) }
       where
@@ -40,23 +40,11 @@ module _ (kind op : List ℕ) where
         at o low (yes is) =
             ap (get_d' (set named (get_or op n 0) true)) is
             ∙ get_or-set_same named (get_or op n 0) true false (omega (arith, N.whole))
-            ∙ sym (rw (add-one n, e, eq-eqb (get_or op n 0) o (sym is)))
+            ∙ sym (rw (add-one n, ne_eqb (get_or kind n 0) 0 e, eq-eqb (get_or op n 0) o (sym is)))
           where
             get_d' : List Bool → ℕ → Bool
             get_d' l k = get_or l k false
         at o low (no other) =
             get_or-set_other named (get_or op n 0) o true false other
             ∙ N.each o low
-            ∙ sym (rw (add-one n, e, ne_eqb (get_or op n 0) o (λ is. other (sym is))))
-
-  pub named_more :
-      (n : ℕ) (named named' : List Bool)
-      → NamedBy n named
-      → get_or op n 0 < 64
-      → named' ≡ cond (eqb (get_or kind n 0) 0) named (set named (get_or op n 0) true)
-      → NamedBy (n + 1) named'
-  named_more n named named' N few is = decide (eqb (get_or kind n 0) 0) refl
-    where
-      decide : (b : Bool) → eqb (get_or kind n 0) 0 ≡ b → NamedBy (n + 1) named'
-      decide true e = subst (NamedBy (n + 1)) (sym (is ∙ rw e)) (named_end n named N e)
-      decide false e = subst (NamedBy (n + 1)) (sym (is ∙ rw e)) (named_one n named N e few)
+            ∙ sym (rw (add-one n, ne_eqb (get_or kind n 0) 0 e, ne_eqb (get_or op n 0) o (λ is. other (sym is))))

@@ -9,15 +9,14 @@ use native.Mathlib.Omega.{arith}
 use lib.ListN.{length}
 use lib.Dec.{eqb, ltb}
 use borrow.Author.Tests.{eqb-true, ltb-true}
-use Rattle.refusals.specs.declared.Verdict.TheVariants.{Accepted}
+use Rattle.refusals.specs.Verdict.{Accepted}
 use Rattle.refusals.proofs.Verdicts.{and_left, and_right, or_cases}
 use Rattle.cell.specs.declared.Cell.{Cell}
 use Rattle.cell.specs.declared.OperationLine.{OperationLine}
 use Rattle.recipe.specs.declared.Recipe.{Recipe}
 use Rattle.simulation.specs.Simulation.{Realisable}
-use Rattle.install.specs.declared.Listing.{Listing}
 use Rattle.install.specs.Order.{same_line, is_among, comes_before, is_first, rises, filled_with}
-use Rattle.install.specs.Call.{check_install, Listed, InstallCall}
+use Rattle.install.specs.Call.{Listing, check_install, Listed, InstallCall}
 use Rattle.install.proofs.Members.{same_line_lem, line_same, or_either, none_among}
 
 -- what comes first of four numbers

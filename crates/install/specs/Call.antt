@@ -1,15 +1,13 @@
 -- The install call, which "still takes one recipe": the rules that it tries, its list, and what it leaves of what is lent. Assumes nothing.
-use Rattle.std.specs.Prelude.{◌≡◌, true, List, [], ◌∷◌, ℕ, ◌≤◌, length, leb}
-use Rattle.refusals.specs.declared.Verdict.{Verdict}
-use Rattle.refusals.specs.declared.Verdict.TheVariants.{Accepted}
+use Rattle.std.specs.Prelude.{◌≡◌, Result, Ok, Err, true, List, [], ◌∷◌, ℕ, ◌≤◌, length, leb}
+use Rattle.refusals.specs.declared.Broken.{Broken}
 use Rattle.refusals.specs.declared.Refusal.TheVariants.{FullCell}
-use Rattle.refusals.specs.Verdict.{first_refusal, no_line}
+use Rattle.refusals.specs.Verdict.{Verdict, Accepted, first_refusal, no_line}
 use Rattle.cell.specs.declared.Cell.{Cell}
 use Rattle.cell.specs.declared.OperationLine.{OperationLine}
 use Rattle.recipe.specs.declared.Recipe.{Recipe}
 use Rattle.simulation.specs.Simulation.{Realisable}
 use Rattle.planner.specs.Call.{check_plan}
-use Rattle.install.specs.declared.Listing.{Listing}
 use Rattle.install.specs.Candidates.{is_candidate, Mends}
 use Rattle.install.specs.Order.{is_among, rises, filled_with}
 
@@ -29,6 +27,16 @@ pub record Listed (c : Cell) (r : Recipe) (lines : List OperationLine) : Type 0 
   pub every : (l : OperationLine) → is_candidate c r l ≡ true → Mends c r l → is_among l lines ≡ true
   -- "The list rises by those four numbers in that order, each line once."
   pub order : rises lines ≡ true
+
+-- what an install call answers: its verdict, and how many lines mend the cell, of which the list may have fewer
+pub record Listing : Type 0 where
+  pub verdict : Verdict
+  pub count : ℕ
+
+-- "numbers and counts in a refused answer are 0"
+unfoldable pub listing_of : Result ℕ Broken → Listing
+listing_of (Ok count) = record { verdict = Accepted; count = count }
+listing_of (Err broken) = record { verdict = Err broken; count = 0 }
 
 -- the answer of an install call, and what is lent before and after it
 pub record InstallCall (c : Cell) (r : Recipe) (table scratch list table' scratch' list' : List ℕ) (answer : Listing) : Type 0 where

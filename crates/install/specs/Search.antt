@@ -1,6 +1,8 @@
 -- The search for the lines that mend a cell: lines by number, groups of candidates, and what is listed so far. Only the contracts of
 -- the code cite these. Assumes nothing.
-use Rattle.std.specs.Prelude.{◌≡◌, Bool, true, false, List, [], ◌∷◌, ℕ, ◌+◌, ◌*◌, ◌-◌, ◌/◌, ◌%◌, ◌<◌, ◌≤◌, length, get_or}
+use Rattle.std.specs.Prelude.{◌≡◌, Bool, true, false, List, [], ◌∷◌, ℕ, ◌+◌, ◌*◌, ◌-◌, ◌/◌, ◌%◌, ◌<◌, ◌≤◌, length, get_or, ⊤}
+use Rattle.std.specs.declared.option.Option.{Option}
+use Rattle.std.specs.declared.option.Option.TheVariants.{None, Some}
 use Rattle.cell.specs.declared.Cell.{Cell}
 use Rattle.cell.specs.declared.OperationLine.{OperationLine}
 use Rattle.cell.specs.Longer.{with_lines}
@@ -10,6 +12,8 @@ use Rattle.positions.specs.declared.Sizes.{Sizes}
 use Rattle.positions.specs.Checked.{Checked}
 use Rattle.positions.specs.Sizes.{sizes_of}
 use Rattle.install.specs.declared.Group.{Group}
+use Rattle.install.specs.declared.candidates.Look.{Look}
+use Rattle.install.specs.declared.candidates.Look.TheVariants.{Candidate, Past}
 use Rattle.install.specs.declared.Progress.{Progress}
 use Rattle.install.specs.Candidates.{is_named, is_candidate, Mends}
 use Rattle.install.specs.Order.{is_among, rises, filled_with}
@@ -41,15 +45,20 @@ pub record Question (c : Cell) (r : Recipe) (z : Sizes) (named : List Bool) : Ty
   pub asked : Asked c r z
   pub names : Named r named
 
--- one look at line n: it is a candidate, or none of the lines before the next to be looked at is
-pub data Looked (c : Cell) (r : Recipe) (n next : ℕ) : Type 0 where
-  looked_found : next ≡ n → is_tried c r n ≡ true → Looked c r n next
-  looked_past : n < next → ((m : ℕ) → n ≤ m → m < next → is_tried c r m ≡ false) → Looked c r n next
+-- one look at line n goes on behind it, and not past the lines of its resource and of the state from which it begins
+abbrev pub Onward : ℕ → Look → Type 0
+Onward n Candidate = ⊤
+Onward n (Past next) = (n < next) × (next ≤ (n / 512 + 1) * 512)
+
+-- and line n is a candidate, or none of the lines before the next to be looked at is
+abbrev pub Looked : Cell → Recipe → ℕ → Look → Type 0
+Looked c r n Candidate = is_tried c r n ≡ true
+Looked c r n (Past next) = (m : ℕ) → n ≤ m → m < next → is_tried c r m ≡ false
 
 -- the next candidate from `from` on is n, or there is none before `end`
-pub record Next (c : Cell) (r : Recipe) (from end n : ℕ) : Type 0 where
-  pub none : (m : ℕ) → from ≤ m → m < n → is_tried c r m ≡ false
-  pub found : n < end → is_tried c r n ≡ true
+abbrev pub Next : Cell → Recipe → ℕ → ℕ → Option ℕ → Type 0
+Next c r from end None = (m : ℕ) → from ≤ m → m < end → is_tried c r m ≡ false
+Next c r from end (Some n) = ((m : ℕ) → from ≤ m → m < n → is_tried c r m ≡ false) × (is_tried c r n ≡ true)
 
 -- the candidates from `from` on and before `next`, so many, added behind the cell's lines; `last` is the number of the last
 pub record Gathered (c : Cell) (r : Recipe) (from next added last : ℕ) (longer : Cell) : Type 0 where

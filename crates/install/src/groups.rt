@@ -9,41 +9,38 @@ use positions::Sizes;
 
 // The next candidates from `from` on, as many as the size or as there are.
 pub fn gather(
-    cell: Cell,
-    sizes: Sizes,
+    cell: &Cell,
+    sizes: &Sizes,
     named: &[bool; 64],
     from: usize,
     size: usize,
     end: usize,
 ) -> Group
-    requires size_bound { cell.count + size ≤ 64 }
+    requires size_bound { cell.now.count + size ≤ 64 }
     requires le_size { (1 ≤ size) × (from < end) }
-    requires end_value { end ≡ 4096 * sizes.resources }
+    requires end_value { end ≡ 4096 * sizes.now.resources }
     requires end_bound { end ≤ 24576 }
-    ensures { (r : Recipe) → Question cell r sizes named.now → GroupOf cell r from end size result }
+    ensures { (r : Recipe) → Question cell.now r sizes.now named.now → GroupOf cell.now r from end size result }
 {
-    let mut longer = cell;
-    let mut added = 0;
+    let mut longer = *cell;
     let mut next = from;
     let mut last = from;
-    while added < size {
-        let candidate = candidates::next_candidate(cell, sizes, named, next, end);
-        if candidate == end {
+    for added in 0..size {
+        let Some(candidate) = candidates::next_candidate(cell, sizes, named, next, end) else {
             return Group {
                 cell: longer,
                 added,
                 last,
                 end,
             };
-        }
+        };
         longer = cell::longer::with_line(longer, candidates::line_at(candidate));
-        added += 1;
         last = candidate;
         next = candidate + 1;
     }
     Group {
         cell: longer,
-        added,
+        added: size,
         last,
         end: next,
     }

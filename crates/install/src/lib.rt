@@ -5,18 +5,11 @@ mod candidates;
 mod groups;
 mod search;
 
-ghost use Rattle.install.specs.Call.{InstallCall};
+ghost use Rattle.install.specs.Call.{InstallCall, listing_of};
 
 use cell::Cell;
 use recipe::Recipe;
-use refusals::{Refusal, Verdict};
-
-// What an install call answers: its verdict, and how many lines mend the cell, of which the list may have fewer.
-#[derive(Clone, Copy)]
-pub struct Listing {
-    pub verdict: Verdict,
-    pub count: usize,
-}
+use refusals::{Broken, Refusal};
 
 // Candidates added behind the lines of a cell: how many, the number of the last, and where the next group begins.
 #[derive(Clone, Copy)]
@@ -37,46 +30,23 @@ pub struct Progress {
     pub found: usize,
 }
 
-// Lists the lines of which each alone makes the recipe acceptable, whatever is handed in, or says which rule refuses it.
+// Lists the lines of which each alone makes the recipe acceptable, whatever is handed in, or says which rule refuses it. Answers how many
+// lines do, of which the list may have fewer.
 pub fn install(
     cell: Cell,
     recipe: Recipe,
     table: &mut [u32],
     scratch: &mut [u8],
     list: &mut [u8],
-) -> Listing
-    ensures { InstallCall cell recipe table.old scratch.old list.old table.new scratch.new list.new result }
+) -> Result<usize, Broken>
+    ensures { InstallCall cell recipe table.old scratch.old list.old table.new scratch.new list.new (listing_of result) }
 {
-    let checked = positions::check_records(cell, recipe);
-    let Verdict::Accepted = checked else {
-        return Listing {
-            verdict: checked,
-            count: 0,
-        };
-    };
+    positions::check_records(cell, recipe)?;
     let sizes = positions::measure(cell, recipe);
-    let called = planner::check_call(recipe, sizes, table.len(), scratch.len());
-    let Verdict::Accepted = called else {
-        return Listing {
-            verdict: called,
-            count: 0,
-        };
-    };
-    if cell.count == 64 {
-        return Listing {
-            verdict: Verdict::Refused(Refusal::FullCell, 0),
-            count: 0,
-        };
+    planner::check_call(recipe, sizes, table.len(), scratch.len())?;
+    refusals::no_line(Refusal::FullCell, 64 <= cell.count)?;
+    if planner::is_realisable(&cell, &recipe, &sizes, table, scratch) {
+        return Ok(0);
     }
-    if planner::is_realisable(cell, recipe, sizes, table, scratch) {
-        return Listing {
-            verdict: Verdict::Accepted,
-            count: 0,
-        };
-    }
-    let count = search::seek(cell, recipe, sizes, table, scratch, list);
-    Listing {
-        verdict: Verdict::Accepted,
-        count,
-    }
+    Ok(search::seek(&cell, &recipe, &sizes, table, scratch, list))
 }

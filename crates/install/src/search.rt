@@ -32,12 +32,10 @@ fn next_size(at: Progress, most: usize) -> usize
     ensures { (1 ≤ result) × (result ≤ most) }
 {
     if at.halved {
-        return at.size;
+        at.size
+    } else {
+        most.min(2 * at.size)
     }
-    if most < 2 * at.size {
-        return most;
-    }
-    2 * at.size
 }
 
 // Where the search goes on behind a group that is decided.
@@ -57,9 +55,9 @@ fn behind(at: Progress, next: usize, found: usize, most: usize) -> Progress
 // Tries the next group: if it does not make the recipe acceptable, none of its lines does; else it is halved, or its one line is
 // listed.
 fn attempt(
-    cell: Cell,
-    recipe: Recipe,
-    sizes: Sizes,
+    cell: &Cell,
+    recipe: &Recipe,
+    sizes: &Sizes,
     named: &[bool; 64],
     end: usize,
     at: Progress,
@@ -67,21 +65,20 @@ fn attempt(
     scratch: &mut [u8],
     list: &mut [u8],
 ) -> Progress
-    requires question { Question cell recipe sizes named.now }
-    requires standing { Standing cell end at }
-    requires end_value { end ≡ 4096 * sizes.resources }
+    requires question { Question cell.now recipe.now sizes.now named.now }
+    requires standing { Standing cell.now end at }
+    requires end_value { end ≡ 4096 * sizes.now.resources }
     requires next_lt_end { at.next < end }
-    requires positions_in_bounds { sizes.positions ≤ length table.old }
-    requires sizes_bound { span sizes ≤ room scratch.old }
-    ensures { Tried cell recipe end at list.old result list.new }
+    requires positions_in_bounds { sizes.now.positions ≤ length table.old }
+    requires sizes_bound { span sizes.now ≤ room scratch.old }
+    ensures { Tried cell.now recipe.now end at list.old result list.new }
 {
     let most = 64 - cell.count;
     let group = groups::gather(cell, sizes, named, at.next, at.size, end);
     if group.added == 0 {
         return behind(at, group.end, at.found, most);
     }
-    let longer = group.cell;
-    if !planner::is_realisable(longer, recipe, sizes, table, scratch) {
+    if !planner::is_realisable(&group.cell, recipe, sizes, table, scratch) {
         return behind(at, group.end, at.found, most);
     }
     if 1 < group.added {
@@ -98,17 +95,17 @@ fn attempt(
 
 // Lists the lines that mend the cell: how many there are.
 pub fn seek(
-    cell: Cell,
-    recipe: Recipe,
-    sizes: Sizes,
+    cell: &Cell,
+    recipe: &Recipe,
+    sizes: &Sizes,
     table: &mut [u32],
     scratch: &mut [u8],
     list: &mut [u8],
 ) -> usize
-    requires asked { Asked cell recipe sizes }
-    requires positions_in_bounds { sizes.positions ≤ length table.old }
-    requires sizes_bound { span sizes ≤ room scratch.old }
-    ensures { (result ≤ 24576) × SoFar cell recipe list.old (4096 * sizes.resources) result list.new }
+    requires asked { Asked cell.now recipe.now sizes.now }
+    requires positions_in_bounds { sizes.now.positions ≤ length table.old }
+    requires sizes_bound { span sizes.now ≤ room scratch.old }
+    ensures { (result ≤ 24576) × SoFar cell.now recipe.now list.old (4096 * sizes.now.resources) result list.new }
 {
     let named = candidates::named_operations(recipe);
     let end = 4096 * sizes.resources;
@@ -118,6 +115,7 @@ pub fn seek(
         halved: false,
         found: 0,
     };
+    // A turn goes on behind a group or halves it, so this is no count.
     while at.next < end {
         at = attempt(cell, recipe, sizes, &named, end, at, table, scratch, list);
     }

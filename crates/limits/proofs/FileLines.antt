@@ -1,17 +1,17 @@
 -- The lines that the reader has read from a file's numbers. Assumes nothing.
-use mathlib.Core.Path.{◌≡◌, refl, ap, ◌∙◌}
+use mathlib.Core.Path.{◌≡◌, ap, ◌∙◌}
 use mathlib.Core.Bool.{Bool, not, ◌&&◌}
-use mathlib.Core.List.{List, ◌∷◌}
-use Prim.Native.Nat.{ℕ, ◌+◌, ◌<◌, ◌≤◌}
+use mathlib.Core.List.{List}
+use Prim.Native.Nat.{ℕ, ◌<◌, ◌≤◌}
 use native.Mathlib.Omega.{arith}
 use lib.ListN.{length}
-use Rattle.refusals.specs.declared.Verdict.{Verdict}
-use Rattle.refusals.specs.declared.Verdict.TheVariants.{Refused}
+use borrow.Author.Tests.{ltb-false}
+use Rattle.std.specs.Prelude.{Ok}
 use Rattle.refusals.specs.declared.Refusal.TheVariants.{Range}
 use Rattle.refusals.specs.Search.{first_below}
-use Rattle.refusals.specs.Verdict.{first_refusal}
+use Rattle.refusals.specs.Verdict.{line_verdict, first_line}
 use Rattle.refusals.proofs.Scan.{first_same, first_both}
-use Rattle.refusals.proofs.Verdicts.{broken, kept}
+use Rattle.refusals.proofs.Verdicts.{test_fails}
 use Rattle.tables.specs.declared.Column.{Column}
 use Rattle.tables.specs.Lines.{value_lines}
 use Rattle.tables.specs.Table.{number_at, column}
@@ -52,19 +52,19 @@ module _
         at : (i : ℕ) → i < 64 → not (fits f 0 0 5 i && fits f 1 1 8 i) ≡ leaves f i
         at i low = rw (within_most 5 (number_at f 0 i), column_at f 0 i low, column_at f 1 i low)
 
-    -- a number leaves its range
-    pub range_broken : (rest : List Verdict) → most.lines < count → Refused Range (most.lines + 2) ≡ first_refusal (rule4 f ∷ rest)
-    unfolding rule4 leaves
-    range_broken rest low = broken Range (leaves f) (length (value_lines f)) most.lines found rest (omega arith)
+    -- rule 4 of the file, by the lines that were read
+    pub range_judged : line_verdict Range most.lines count ≡ rule4 f
+    unfolding first_line rule4 leaves
+    range_judged = rw (all, found)
 
-    -- all are in range: the columns are the file's, and rule 4 leaves it to the others
-    module _ (past : count ≤ most.lines) where
-      pub range_kept : (rest : List Verdict) → first_refusal rest ≡ first_refusal (rule4 f ∷ rest)
-      unfolding rule4 leaves
-      range_kept rest = kept Range (leaves f) (length (value_lines f)) most.lines found rest (omega arith) refl
+    -- all are in range: the columns are the file's
+    module _ {done : Unit} (fine : line_verdict Range most.lines count ≡ Ok done) where
+      past : count ≤ most.lines
+      unfolding line_verdict
+      past = ltb-false _ _ (test_fails _ _ _ fine)
 
       pub resources_are : resource.values ≡ column f 0
-      resources_are = read_all f 0 0 5 count count resource R0 (omega arith) (omega (arith, R1.fewer)) few all
+      resources_are = read_all f 0 0 5 count count resource R0 (omega arith) (omega (arith, R1.fewer, past)) few all
 
       pub mosts_are : most.values ≡ column f 1
       mosts_are = read_all f 1 1 8 resource.lines count most R1 R0.fewer past few all

@@ -1,23 +1,22 @@
 -- The record with a file's limits: when the reader returns it, and that it passes the rules of a cell record.
 -- Assumes nothing.
-use mathlib.Core.Path.{◌≡◌, refl, ap, ◌∙◌}
+use mathlib.Core.Path.{◌≡◌, refl, ◌∙◌}
 use mathlib.Core.Bool.{Bool, true, false, cond, ◌&&◌}
-use mathlib.Core.List.{List, [], ◌∷◌}
+use mathlib.Core.List.{List}
 use Prim.Native.Nat.{ℕ, ◌+◌, ◌<◌, ◌≤◌}
 use native.Mathlib.Decide.{dec_lt}
 use native.Mathlib.Omega.{arith}
 use lib.ListN.{length, get_or}
 use lib.Dec.{ltb, leb}
-use borrow.Author.Tests.{leb-true, leb-false, ltb-true, ne_eqb, not-false}
-use Rattle.refusals.specs.declared.Verdict.{Verdict}
-use Rattle.refusals.specs.declared.Verdict.TheVariants.{Accepted, Refused}
+use borrow.Author.Tests.{leb-true, leb-false, ltb-true, le-ltb, ne_eqb, not-false}
+use Rattle.std.specs.Prelude.{Err}
+use Rattle.refusals.specs.Verdict.{Verdict, Accepted, first_refusal, line_verdict, first_line}
 use Rattle.refusals.specs.declared.Refusal.TheVariants.{Range, LimitResource}
 use Rattle.refusals.specs.Search.{first_below, any_below, is_of, tabulate}
-use Rattle.refusals.specs.Verdict.{first_refusal, if_accepted}
 use Rattle.refusals.proofs.Scan.{first_past}
 use Rattle.refusals.proofs.EveryBelow.{any_none}
 use Rattle.refusals.proofs.TabulatedLists.{tabulate_at}
-use Rattle.refusals.proofs.Verdicts.{and_left, and_right, or_left, none_breaks, no_line_kept, broken, kept}
+use Rattle.refusals.proofs.Verdicts.{and_left, and_right, or_left, none_breaks, no_line_kept}
 use Rattle.refusals.proofs.Rules.{first_accepts, rest_accepts}
 use Rattle.tables.specs.Lines.{value_lines}
 use Rattle.tables.specs.Table.{column}
@@ -27,46 +26,26 @@ use Rattle.cell.specs.Rules.{limit_in_range, limit_leaves_range, greatest_resour
 use Rattle.cell.proofs.StationLimits.{limit_fits, limit_present, limit_eight}
 use Rattle.cell.proofs.AcceptedRecord.{each_accepts}
 use Rattle.limits.specs.Reader.{leaves_range, rule4, misplaced, rule20, at_no_line, file_rules, judge_limits, limit_by, limited}
-use Rattle.limits.specs.Inner.{reading}
-use Rattle.limits.proofs.LineLimits.{limit_none}
+use Rattle.limits.specs.Inner.{limits_of}
 
--- the first line that breaks rule 20, of the columns of a file, in a cell with this greatest resource
+-- rule 20, by the first line that breaks it, and the limits, of the columns of a file, in a cell with this greatest resource
 module _
-    (f : List ℕ) (c : Cell) (resource most : List ℕ) (count greatest first : ℕ)
+    (f : List ℕ) (c : Cell) (resource most : List ℕ) (count : ℕ)
     (resources_are : resource ≡ column f 0)
     (mosts_are : most ≡ column f 1)
     (all : count ≡ length (value_lines f))
-    (greatest-is : greatest ≡ greatest_resource c.resource c.count)
-    (first_is : first ≡ first_below (misplaced resource (greatest + 1)) count)
   where
-    first_misplaced : first ≡ first_below (misplaced (column f 0) (resource_count c)) (length (value_lines f))
-    first_misplaced = rw (resources_are, greatest-is, all) at first_is
+    pub order_judged :
+        {greatest first : ℕ}
+        → greatest ≡ greatest_resource c.resource c.count
+        → first ≡ first_below (misplaced resource (greatest + 1)) count
+        → line_verdict LimitResource first count ≡ rule20 f (resource_count c)
+    unfolding first_line rule20
+    order_judged greatest first = rw (first, greatest, resources_are, all)
 
-    pub order_broken : first < count → reading f c (Refused LimitResource (first + 2)) ≡ reading f c (first_refusal (rule20 f (resource_count c) ∷ []))
-    unfolding rule20
-    order_broken low = ap (reading f c) (broken LimitResource _ _ first first_misplaced [] (omega arith))
-
-    -- none does: the record has the file's limits, and nothing else is new
-    module _ (past : count ≤ first) where
-      accepted : Accepted ≡ first_refusal (rule20 f (resource_count c) ∷ [])
-      unfolding first_refusal rule20
-      accepted = kept LimitResource _ _ first first_misplaced [] (omega arith) refl
-
-      pub order_kept : record {
-        verdict = Accepted;
-        cell =
-            record {
-              count = c.count;
-              resource = c.resource;
-              from = c.from;
-              act = c.act;
-              arg = c.arg;
-              to = c.to;
-              limits = tabulate 6 (limit_by resource most count 8);
-            };
-      } ≡ reading f c (first_refusal (rule20 f (resource_count c) ∷ []))
-      unfolding reading if_accepted limited
-      order_kept = rw (← accepted, resources_are, mosts_are, all)
+    pub limits_judged : tabulate 6 (limit_by resource most count 8) ≡ limits_of f
+    unfolding limits_of
+    limits_judged = rw (resources_are, mosts_are, all)
 
 -- a record that gets the limits of an accepted file passes its own rules
 module _ (f : List ℕ) (c : Cell) (accepted : judge_limits f c ≡ Accepted) where
@@ -76,7 +55,7 @@ module _ (f : List ℕ) (c : Cell) (accepted : judge_limits f c ≡ Accepted) wh
     where
       passed : (v : Verdict) → at_no_line v ≡ Accepted → v ≡ Accepted
       passed Accepted e = refl
-      passed (Refused refusal line) e = cc
+      passed (Err broken) e = cc
 
   range_accepted : rule4 f ≡ Accepted
   unfolding judge_limits file_rules
@@ -115,8 +94,8 @@ module _ (f : List ℕ) (c : Cell) (accepted : judge_limits f c ≡ Accepted) wh
 
   -- no line has a resource at or above R
   limit_absent : (k : ℕ) → resource_count c ≤ k → limit k ≡ 8
-  unfolding limit count rule20 misplaced is_of
-  limit_absent k high = limit_none (column f 0) (column f 1) count 8 k count (omega arith) (omega arith) (first_past _ _ other)
+  unfolding limit limit_by count rule20 misplaced is_of
+  limit_absent k high = rw (first_past (is_of (column f 0) k) count other, le-ltb count count (omega arith))
     where
       other : (n : ℕ) → n < count → is_of (column f 0) k n ≡ false
       other n low =

@@ -1,15 +1,15 @@
 -- What the reader of a limits file returns. "A third table, names line `resource,most`, gives the most parts (1 to 8) that a
 -- resource (0 to 5) may hold". Assumes nothing.
 use Rattle.std.specs.Prelude.{Bool, false, cond, not, ◌&&◌, ◌||◌, List, [], ◌∷◌, ℕ, zero, suc, length, get_or, ltb, leb}
-use Rattle.refusals.specs.declared.Verdict.{Verdict}
-use Rattle.refusals.specs.declared.Verdict.TheVariants.{Accepted, Refused}
+use Rattle.std.specs.Prelude.{Result, Ok, Err}
+use Rattle.refusals.specs.declared.Broken.{Broken}
+use Rattle.refusals.specs.Verdict.{Verdict, Accepted, Refused, first_refusal, first_line, if_accepted, rule3}
 use Rattle.refusals.specs.declared.Refusal.TheVariants.{Range, LimitResource}
 use Rattle.refusals.specs.Search.{first_below, is_of, tabulate}
-use Rattle.refusals.specs.Verdict.{first_refusal, first_line, if_accepted, rule3}
 use Rattle.tables.specs.Lines.{value_lines}
 use Rattle.tables.specs.Table.{rule1, rule2, column}
 use Rattle.cell.specs.declared.Cell.{Cell}
-use Rattle.cell.specs.declared.CellReading.{CellReading}
+use Rattle.cell.specs.Reader.{CellReading}
 use Rattle.cell.specs.Rules.{limit_in_range, resource_count, check_cell}
 
 -- "names line `resource,most`", in ASCII
@@ -40,7 +40,7 @@ rule20 file R = first_line LimitResource (misplaced (column file 0) R) (length (
 -- "a reader of another file is handed the record it adds to, checks that first (line 0)": the record's refusal, naming no line
 unfoldable pub at_no_line : Verdict → Verdict
 at_no_line Accepted = Accepted
-at_no_line (Refused refusal line) = Refused refusal 0
+at_no_line (Err broken) = Refused broken.rule 0
 
 -- "rules 1 to 4 hold for this table too", then 20
 unfoldable pub file_rules : List ℕ → Cell → List Verdict
@@ -68,6 +68,11 @@ limited file c =
       to = c.to;
       limits = tabulate 6 (λ k. limit_by (column file 0) (column file 1) (length (value_lines file)) 8 k);
     }
+
+-- an answer of `read_limits` for a record: it with the file's limits, or a refusal, with which the record stays as it is
+unfoldable pub reading_over : Cell → Result Cell Broken → CellReading
+reading_over c (Ok cell) = record { verdict = Accepted; cell = cell }
+reading_over c (Err broken) = record { verdict = Err broken; cell = c }
 
 -- "and returns it unchanged when it refuses": what the reader returns
 unfoldable pub read_limits : List ℕ → Cell → CellReading

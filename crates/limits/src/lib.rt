@@ -6,18 +6,24 @@ mod reader;
 mod station;
 
 ghost use Rattle.std.specs.Prelude.{◌≡◌};
-ghost use Rattle.limits.specs.Reader.{read_limits};
+ghost use Rattle.limits.specs.Reader.{read_limits, reading_over};
 
-use cell::{Cell, CellReading};
-use refusals::Verdict;
+use cell::Cell;
+use refusals::Broken;
 
 // The record with the limits that the file writes, whatever is in either. A refusal of the record names no line, since the
 // lines of the file are not those that it speaks of.
-pub fn read_limits(file: &[u8], cell: Cell) -> CellReading
-    ensures { result ≡ read_limits file.now cell }
+pub fn read_limits(file: &[u8], cell: Cell) -> Result<Cell, Broken>
+    ensures { reading_over cell result ≡ read_limits file.now cell }
 {
-    match cell::check_cell(cell) {
-        Verdict::Accepted => reader::read_file(file, cell),
-        Verdict::Refused(refusal, _) => reader::refused(refusal, 0, cell),
+    if let Err(broken) = cell::check_cell(cell) {
+        return Err(Broken {
+            rule: broken.rule,
+            line: 0,
+        });
     }
+    let mut limited = cell;
+    let limits = reader::read_file(file, &cell)?;
+    limited.limits = limits;
+    Ok(limited)
 }

@@ -12,7 +12,7 @@ use borrow.Author.Tests.{eqb-true}
 use Rattle.refusals.specs.Search.{greatest_below, is_of}
 use Rattle.refusals.proofs.Scan.{greatest_longer}
 use Rattle.refusals.proofs.TabulatedLists.{tabulate_same}
-use Rattle.refusals.specs.declared.Verdict.TheVariants.{Accepted}
+use Rattle.refusals.specs.Verdict.{Accepted}
 use Rattle.cell.specs.declared.Cell.{Cell}
 use Rattle.cell.specs.declared.OperationLine.{OperationLine}
 use Rattle.cell.specs.Rules.{check_cell}

@@ -1,7 +1,7 @@
 -- What a call knows of a cell and a recipe once the rules up to 13 accept them: they pass, and their numbers are these, with any P
 -- that counts the recipe's parts. Assumes nothing.
 use Rattle.std.specs.Prelude.{◌≡◌, ◌≤◌}
-use Rattle.refusals.specs.declared.Verdict.TheVariants.{Accepted}
+use Rattle.refusals.specs.Verdict.{Accepted}
 use Rattle.cell.specs.declared.Cell.{Cell}
 use Rattle.cell.specs.Rules.{check_cell}
 use Rattle.recipe.specs.declared.Recipe.{Recipe}

@@ -2,35 +2,36 @@
 use mathlib.Core.Path.{◌≡◌, refl, sym, ap, ◌∙◌}
 use mathlib.Core.Bool.{Bool, true, false, cond}
 use mathlib.Core.List.{List, [], ◌∷◌}
-use Prim.Native.Nat.{ℕ, ◌-◌, ◌<◌, ◌≤◌}
+use Prim.Native.Nat.{ℕ, ◌-◌, ◌≤◌}
 use native.Mathlib.Omega.{arith}
 use lib.ListN.{length}
-use borrow.Author.Tests.{le-leb, lt-leb}
+use Rattle.std.proofs.lemmas.Bool.Decides.{nat_tests}
+use Rattle.std.specs.Char.{is_ascii_digit}
+use Rattle.std.specs.Result.{result_unwrap_or}
 use Rattle.refusals.specs.declared.Refusal.{Refusal}
 use Rattle.refusals.specs.Refusal.{number_of}
-use Rattle.refusals.specs.declared.Verdict.{Verdict}
-use Rattle.refusals.specs.declared.Verdict.TheVariants.{Accepted, Refused}
+use Rattle.std.specs.Prelude.{Result, Ok, Err}
+use Rattle.refusals.specs.declared.Broken.{Broken}
+use Rattle.refusals.specs.Verdict.{Verdict, Accepted, Refused}
 use Rattle.tables.specs.Numbers.{is_digit}
 use Rattle.cell.specs.declared.Cell.{Cell}
 use Rattle.recipe.specs.declared.Recipe.{Recipe}
 use Rattle.run.specs.declared.Run.{Run}
-use Rattle.run.specs.declared.Report.{Report}
-use Rattle.run.specs.Calls.{next_move, report_of}
+use Rattle.run.specs.Calls.{Report, move_of, next_move, report_of}
 use Rattle.printout.specs.Text.{move_line, refusal_line, Put}
 use Rattle.printout.specs.Turn.{position_in, Told, reported, told, Answered}
 use Rattle.printout.proofs.BufferPieces.{put_nothing, put_same, move_few, refusal_few}
 
-below_digits : (byte : ℕ) → byte < 48 → is_digit byte ≡ false
+-- std's test of a digit is the definition's
+digit_test : (byte : ℕ) → is_ascii_digit byte ≡ is_digit byte
 unfolding is_digit
-below_digits byte low = rw (lt-leb 48 byte low)
+digit_test byte = grind (arith, nat_tests)
 
-above_digits : (byte : ℕ) → 48 ≤ byte → 57 < byte → is_digit byte ≡ false
-unfolding is_digit
-above_digits byte high past = rw (le-leb 48 byte high, lt-leb byte 57 past)
-
-a_digit : (byte : ℕ) → 48 ≤ byte → byte ≤ 57 → is_digit byte ≡ true
-unfolding is_digit
-a_digit byte high low = rw (le-leb 48 byte high, le-leb byte 57 low)
+-- the entry of a next-move call's answer
+pub entry_in : (answer : Result ℕ Broken) → result_unwrap_or answer 0 ≡ (move_of answer).entry
+unfolding move_of
+entry_in (Ok entry) = refl
+entry_in (Err broken) = refl
 
 -- an answer with the text that was put
 put_answer : {entry exit : List ℕ} {t : Told} {line : List ℕ} {at end : ℕ} {more : Bool} {run : Run} → Put entry exit at line end
@@ -40,25 +41,17 @@ put_answer p e =
     record { line_is = put_same (ap (λ (x : Told). x.line) e) p; more_is = ap (λ (x : Told). x.more) e; run_is = ap (λ (x : Told). x.run) e }
 
 module _ (c : Cell) (r : Recipe) (table : List ℕ) (run : Run) (byte : ℕ) where
-  no_digit : (text : List ℕ) (at : ℕ) → at ≤ length text → is_digit byte ≡ false
+  pub no_digit : (text : List ℕ) (at : ℕ) → at ≤ length text → is_ascii_digit byte ≡ false
       → Answered (told c r table run byte) text text at (record { length = at; more = false; run = run })
   unfolding told
-  no_digit text at fits e = rw e (record { line_is = put_nothing text at fits; more_is = refl; run_is = refl })
+  no_digit text at fits e = rw (sym (digit_test byte) ∙ e) (record { line_is = put_nothing text at fits; more_is = refl; run_is = refl })
 
-  pub byte_below : (text : List ℕ) (at : ℕ) → at ≤ length text → byte < 48
-      → Answered (told c r table run byte) text text at (record { length = at; more = false; run = run })
-  byte_below text at fits low = no_digit text at fits (below_digits byte low)
-
-  pub byte_above : (text : List ℕ) (at : ℕ) → at ≤ length text → 48 ≤ byte → 57 < byte
-      → Answered (told c r table run byte) text text at (record { length = at; more = false; run = run })
-  byte_above text at fits high past = no_digit text at fits (above_digits byte high past)
-
-  module _ (high : 48 ≤ byte) (low : byte ≤ 57) (report : Report) (is : report ≡ report_of c (r ∷ []) table run (byte - 48)) where
+  module _ (digit : is_ascii_digit byte ≡ true) (report : Report) (is : report ≡ report_of c (r ∷ []) table run (byte - 48)) where
     -- what is told of a report with this verdict
     by_verdict : (v : Verdict) → report.verdict ≡ v → reported c r (next_move c (r ∷ []) table run).entry run v report.run ≡ told c r table run byte
     unfolding told
     by_verdict v e =
-        rw (a_digit byte high low)
+        rw (sym (digit_test byte) ∙ digit)
         (λ i. reported c r (next_move c (r ∷ []) table run).entry run ((sym e ∙ ap (λ (x : Report). x.verdict) is) i) (is i).run)
 
     pub report_made : {entry exit : List ℕ} {at here there end : ℕ} (move : ℕ) → report.verdict ≡ Accepted
@@ -84,7 +77,7 @@ module _ (c : Cell) (r : Recipe) (table : List ℕ) (run : Run) (byte : ℕ) whe
 reported_few : (c : Cell) (r : Recipe) (entry : ℕ) (run next : Run) (v : Verdict) → length (reported c r entry run v next).line ≤ 64
 unfolding reported
 reported_few c r entry run next Accepted = move_few (position_in c r run) entry (position_in c r next)
-reported_few c r entry run next (Refused refusal line) = refusal_few (number_of refusal)
+reported_few c r entry run next (Err broken) = refusal_few (number_of broken.rule)
 
 pub line_few : (c : Cell) (r : Recipe) (table : List ℕ) (run : Run) (byte : ℕ) → length (told c r table run byte).line ≤ 64
 unfolding told

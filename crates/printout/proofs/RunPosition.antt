@@ -8,9 +8,7 @@ use lib.ListN.{length}
 use borrow.Author.Tests.{not-false}
 use Rattle.refusals.specs.declared.Refusal.{Refusal}
 use Rattle.refusals.specs.declared.Refusal.TheVariants.{RunRange}
-use Rattle.refusals.specs.declared.Verdict.{Verdict}
-use Rattle.refusals.specs.declared.Verdict.TheVariants.{Accepted, Refused}
-use Rattle.refusals.specs.Verdict.{first_refusal, no_line, if_accepted}
+use Rattle.refusals.specs.Verdict.{Verdict, Accepted, Refused, first_refusal, no_line, if_accepted}
 use Rattle.refusals.proofs.Verdicts.{no_line_accepts}
 use Rattle.refusals.proofs.Rules.{first_accepts, rest_accepts, left_accepts, right_accepts}
 use Rattle.cell.specs.declared.Cell.{Cell}

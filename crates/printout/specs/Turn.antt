@@ -1,9 +1,8 @@
 -- What a byte of standard input makes of a run, and what is printed for it. Assumes nothing.
 use Rattle.std.specs.Prelude.{◌≡◌, Bool, true, false, cond, List, [], ◌∷◌, ◌++◌, ℕ, ◌-◌, ◌≤◌, length, take}
 use Rattle.refusals.specs.Refusal.{number_of}
-use Rattle.refusals.specs.declared.Verdict.{Verdict}
-use Rattle.refusals.specs.declared.Verdict.TheVariants.{Accepted, Refused}
-use Rattle.refusals.specs.Verdict.{first_refusal}
+use Rattle.std.specs.Prelude.{Err}
+use Rattle.refusals.specs.Verdict.{Verdict, Accepted, first_refusal}
 use Rattle.tables.specs.Numbers.{is_digit}
 use Rattle.cell.specs.declared.Cell.{Cell}
 use Rattle.recipe.specs.declared.Recipe.{Recipe}
@@ -18,7 +17,7 @@ use Rattle.printout.specs.Text.{move_line, refusal_line, Put}
 -- a number where a verdict accepts
 unfoldable pub numbered : Verdict → ℕ → ℕ
 numbered Accepted n = n
-numbered (Refused refusal line) n = 0
+numbered (Err broken) n = 0
 
 -- the number of the position that a run's point and configuration are; 0 if they are none
 unfoldable pub position_in : Cell → Recipe → Run → ℕ
@@ -36,7 +35,7 @@ pub record Told : Type 0 where
 unfoldable pub reported : Cell → Recipe → ℕ → Run → Verdict → Run → Told
 reported c r entry run Accepted next =
     record { line = move_line (position_in c r run) entry (position_in c r next); more = true; run = next }
-reported c r entry run (Refused refusal line) next = record { line = refusal_line (number_of refusal); more = false; run = next }
+reported c r entry run (Err broken) next = record { line = refusal_line (number_of broken.rule); more = false; run = next }
 
 -- "digits from standard input, each the outcome of one report; another byte ends it"; the recipe is the one chapter
 unfoldable pub told : Cell → Recipe → List ℕ → Run → ℕ → Told

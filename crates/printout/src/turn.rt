@@ -6,15 +6,13 @@ ghost use Rattle.printout.specs.Turn.{position_in, told, Answered, Answers};
 use crate::{Answer, text};
 use cell::Cell;
 use recipe::Recipe;
-use refusals::Verdict;
 use run::Run;
 
 // The number of the position that a run's point and configuration are; 0 if they are none.
 fn position_of(cell: Cell, recipe: Recipe, run: Run) -> usize
     ensures { result ≡ position_in cell recipe run }
 {
-    let checked = positions::check_records(cell, recipe);
-    let Verdict::Accepted = checked else {
+    let Ok(()) = positions::check_records(cell, recipe) else {
         return 0;
     };
     let sizes = positions::measure(cell, recipe);
@@ -39,39 +37,29 @@ fn answer(
     requires at_in_bounds { at + 64 ≤ length text.old }
     ensures { Answered (told cell (recipe_from recipes.now) table.now run byte) text.old text.new at result }
 {
-    if byte < 48 {
+    if !byte.is_ascii_digit() {
         return Answer {
             length: at,
             more: false,
             run,
         };
     }
-    if 57 < byte {
-        return Answer {
-            length: at,
-            more: false,
-            run,
-        };
-    }
-    let report = run.report(cell, recipes, table, byte - 48);
-    let verdict = report.verdict;
-    let next = report.run;
-    match verdict {
-        Verdict::Accepted => {
+    match run.report(cell, recipes, table, byte - b'0') {
+        Ok(next) => {
             let recipe = records::get_recipe(recipes);
-            let found = run.next_move(cell, recipes, table);
+            let entry = run.next_move(cell, recipes, table).unwrap_or(0);
             let here = position_of(cell, recipe, run) as u64;
             let there = position_of(cell, recipe, next) as u64;
             Answer {
-                length: text::put_move(text, at, here, found.entry as u64, there),
+                length: text::put_move(text, at, here, u64::from(entry), there),
                 more: true,
                 run: next,
             }
         }
-        Verdict::Refused(refusal, _) => Answer {
-            length: text::put_refusal(text, at, refusals::number(refusal)),
+        Err(broken) => Answer {
+            length: text::put_refusal(text, at, refusals::number(broken.rule)),
             more: false,
-            run: next,
+            run,
         },
     }
 }
@@ -94,13 +82,11 @@ pub fn answers(
         more: true,
         run,
     };
-    let mut i = 0;
-    while i < bytes.len() {
-        all = answer(cell, recipes, table, all.run, bytes[i], text, all.length);
+    for byte in bytes {
+        all = answer(cell, recipes, table, all.run, *byte, text, all.length);
         if !all.more {
             return all;
         }
-        i += 1;
     }
     all
 }

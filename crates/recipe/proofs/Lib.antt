@@ -3,3 +3,4 @@ pub mod PointOrder
 mod CommonParts
 mod RecordFields
 pub mod AcceptedRecord
+pub mod ReadRecord

@@ -3,18 +3,21 @@
 -- Assumes nothing.
 use mathlib.Core.Path.{◌≡◌, refl, sym, ap, ◌∙◌, subst}
 use mathlib.Core.Logic.{◌⊎◌, inl, inr, ⊎_elim}
-use mathlib.Core.Bool.{Bool, true, false, not, ◌&&◌, ◌||◌}
+use mathlib.Core.Bool.{Bool, true, false, not, ◌&&◌, ◌||◌, or-false}
 use mathlib.Core.List.{List}
 use Prim.Native.Nat.{ℕ, zero, suc, ◌+◌, ◌-◌, ◌<◌, ◌≤◌}
 use native.Mathlib.Nat.{le_of_suc-le-suc, eq-or-lt_of_le}
+use native.Mathlib.Numerals.{add-one}
 use native.Mathlib.Omega.{arith}
 use lib.ListN.{get_or}
 use lib.Dec.{eqb, leb}
+use Rattle.std.specs.List.{list_any, range_with_len}
 use borrow.Author.Tests.{eq-eqb, ne_eqb, eqb-true, le-leb, lt-leb, leb-true, leb-false, not-false}
 use Rattle.refusals.specs.Search.{first_below, any_below, count_below, is_of}
-use Rattle.refusals.proofs.Scan.{any_hit, first_none}
+use Rattle.refusals.proofs.Scan.{any_hit, first_none, first_past}
+use Rattle.refusals.proofs.EveryBelow.{any_none, count_none}
 use Rattle.refusals.specs.declared.Refusal.TheVariants.{PointOrder}
-use Rattle.refusals.specs.declared.Verdict.TheVariants.{Accepted}
+use Rattle.refusals.specs.Verdict.{Accepted}
 use Rattle.refusals.proofs.Verdicts.{none_breaks}
 use Rattle.recipe.specs.declared.Recipe.{Recipe}
 use Rattle.recipe.specs.Rules.{breaks_order, rule7, clashes, point_count, common, shares_part}
@@ -41,21 +44,6 @@ next a b h = decide (eqb b a) (eqb b (a + 1)) refl refl h
     decide false true p q e = inr (eqb-true b (a + 1) q)
     decide false false p q e = let z : ◌≡◌ {A = ℕ} 0 1 = cc in absurd (omega arith)
 
-none_below : (f : ℕ → Bool) (n : ℕ) → ((k : ℕ) → k < n → f k ≡ false) → any_below f n ≡ false
-unfolding any_below
-none_below f zero all = refl
-none_below f (suc n) all = rw (all n (omega arith), none_below f n (λ k low. all k (omega arith)))
-
-none_first : (f : ℕ → Bool) (n : ℕ) → ((k : ℕ) → k < n → f k ≡ false) → first_below f n ≡ n
-unfolding first_below
-none_first f zero all = refl
-none_first f (suc n) all = rw (eq-eqb _ _ (none_first f n (λ k low. all k (omega arith))), all n (omega arith))
-
-none_counts : (f : ℕ → Bool) (n : ℕ) → ((k : ℕ) → k < n → f k ≡ false) → count_below f n ≡ 0
-unfolding count_below
-none_counts f zero all = refl
-none_counts f (suc n) all = rw (all n (omega arith)) (none_counts f n (λ k low. all k (omega arith)))
-
 -- what fails below m and holds from m on holds at the rest
 rest_counts :
     (f : ℕ → Bool) (m n : ℕ)
@@ -67,7 +55,7 @@ unfolding count_below
 rest_counts f m zero low none all = omega arith
 rest_counts f m (suc n) low none all =
     ⊎_elim
-    (λ e. subst (λ (x : ℕ). m + count_below f x ≡ x) e (omega (arith, none_counts f m none)))
+    (λ e. subst (λ (x : ℕ). m + count_below f x ≡ x) e (omega (arith, count_none f m none)))
     (λ lt. rw (all n (le_of_suc-le-suc lt) (omega arith))
     (omega (arith, rest_counts f m n (le_of_suc-le-suc lt) none (λ k least most. all k least (omega arith)))))
     (eq-or-lt_of_le low)
@@ -75,7 +63,7 @@ rest_counts f m (suc n) low none all =
 -- where rule 7 accepts, the search for a line that breaks it finds none
 pub ordered_all : (r : Recipe) → rule7 r ≡ Accepted → first_below (breaks_order r.point) r.count ≡ r.count
 unfolding rule7
-ordered_all r e = none_first (breaks_order r.point) r.count (none_breaks PointOrder (breaks_order r.point) r.count e)
+ordered_all r e = first_past (breaks_order r.point) r.count (none_breaks PointOrder (breaks_order r.point) r.count e)
 
 module _ (point : List ℕ) (count : ℕ) (ordered : first_below (breaks_order point) count ≡ count) where
   pub starts : 0 < count → get_or point 0 0 ≡ 0
@@ -110,7 +98,7 @@ module _ (point : List ℕ) (count : ℕ) (ordered : first_below (breaks_order p
   unfolding is_of
   more n low e =
       rw
-      (none_below (same_point point (suc n)) (suc n)
+      (any_none (same_point point (suc n)) (suc n)
       (λ k lt. ne_eqb _ _
       (λ (z : get_or point k 0 ≡ get_or point (suc n) 0). omega
       (arith, rises k n (le_of_suc-le-suc lt) (omega arith)))))
@@ -132,7 +120,7 @@ module _ (point : List ℕ) (count : ℕ) (ordered : first_below (breaks_order p
 
   -- the lines up to one of them are in order too
   pub ordered_to : (n : ℕ) → n < count → first_below (breaks_order point) (n + 1) ≡ n + 1
-  ordered_to n low = none_first (breaks_order point) (n + 1) (λ k lt. first_none (breaks_order point) k count (omega arith) ordered)
+  ordered_to n low = first_past (breaks_order point) (n + 1) (λ k lt. first_none (breaks_order point) k count (omega arith) ordered)
 
   -- a line m of line n's point whose predecessor isn't is the first of that point, and the lines between are of it
   pub same_from :
@@ -156,6 +144,26 @@ module _ (point : List ℕ) (count : ℕ) (ordered : first_below (breaks_order p
           (λ z. other (omega arith)
           (omega (arith, rises k (m - 1) (omega arith) (omega arith), rises (m - 1) n (omega arith) high)))
 
+-- whether f holds at a number below start + m: at one below start, or at one of the m from start on, where g agrees with it
+any_of_both :
+    (f g : ℕ → Bool) (m start : ℕ)
+    → ((k : ℕ) → start ≤ k → k < start + m → f k ≡ g k)
+    → (any_below f start || list_any g (range_with_len start m)) ≡ any_below f (start + m)
+unfolding any_below
+any_of_both f g zero start same = let e : start + 0 ≡ start = omega arith in rw e (or-false (any_below f start))
+any_of_both f g (suc m) start same =
+    let e : start + suc m ≡ start + 1 + m = omega arith in
+    rw (e, ← same start (omega arith) (omega arith))
+    (turn (any_below f start) (f start) (list_any g (range_with_len (start + 1) m))
+    ∙ ap (λ (k : ℕ). any_below f k || list_any g (range_with_len (start + 1) m)) (sym (add-one start))
+    ∙ any_of_both f g m (start + 1) (λ k least most. same k (omega arith) (omega arith)))
+  where
+    turn : (a b rest : Bool) → (a || (b || rest)) ≡ ((b || a) || rest)
+    turn true true rest = refl
+    turn true false rest = refl
+    turn false true rest = refl
+    turn false false rest = refl
+
 -- line n's point starts at line `start`: no line before it clashes or shares with line n
 module _ (point : List ℕ) (n start : ℕ) (low : start ≤ n) (from : (k : ℕ) → k < n → same_point point n k ≡ leb start k) where
   earlier : (k : ℕ) → k < start → same_point point n k ≡ false
@@ -167,10 +175,21 @@ module _ (point : List ℕ) (n start : ℕ) (low : start ≤ n) (from : (k : ℕ
   pub rest_same : start + count_below (same_point point n) n ≡ n
   rest_same = rest_counts (same_point point n) start n low earlier later
 
+  -- so a search from there on finds what one over all lines before line n does
+  pub any_from_start :
+      (f g : ℕ → Bool)
+      → any_below f start ≡ false
+      → ((k : ℕ) → start ≤ k → k < n → f k ≡ g k)
+      → list_any g (range_with_len start (n - start)) ≡ any_below f n
+  any_from_start f g none same =
+      let e : start + (n - start) ≡ n = omega arith in
+      let both = any_of_both f g (n - start) start (λ k least most. same k least (omega arith)) in
+      rw none at (both ∙ ap (any_below f) e)
+
   module _ (a b : List ℕ) where
     pub none_clashes : any_below (clashes point a b n) start ≡ false
     unfolding clashes
-    none_clashes = none_below (clashes point a b n) start (λ k lt. rw (earlier k lt))
+    none_clashes = any_none (clashes point a b n) start (λ k lt. rw (earlier k lt))
 
     pub clashes_at :
         (k : ℕ)
@@ -182,7 +201,7 @@ module _ (point : List ℕ) (n start : ℕ) (low : start ≤ n) (from : (k : ℕ
 
     pub none_shares : any_below (shares_part point a b n) start ≡ false
     unfolding shares_part
-    none_shares = none_below (shares_part point a b n) start (λ k lt. rw (earlier k lt))
+    none_shares = any_none (shares_part point a b n) start (λ k lt. rw (earlier k lt))
 
     pub shares_at :
         (k : ℕ)

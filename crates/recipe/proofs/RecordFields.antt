@@ -1,25 +1,28 @@
 -- The record that a reader fills from a file's numbers, field by field. Assumes nothing.
-use mathlib.Core.Path.{◌≡◌, refl, ap, ◌∙◌}
+use mathlib.Core.Path.{◌≡◌, sym, ap, ◌∙◌}
 use mathlib.Core.Bool.{Bool, not, ◌&&◌}
 use mathlib.Core.List.{List, ◌∷◌}
-use Prim.Native.Nat.{ℕ, ◌+◌, ◌<◌, ◌≤◌}
+use Prim.Native.Nat.{ℕ, ◌<◌, ◌≤◌}
 use native.Mathlib.Omega.{arith}
 use lib.ListN.{length}
-use Rattle.refusals.specs.declared.Verdict.{Verdict}
-use Rattle.refusals.specs.declared.Verdict.TheVariants.{Refused}
+use borrow.Author.Tests.{ltb-false}
+use Rattle.refusals.specs.Verdict.{Verdict, first_refusal, line_verdict, first_line, found_if}
+use Rattle.refusals.specs.declared.Broken.{Broken}
+use Rattle.std.specs.Prelude.{Result, Ok, Err}
 use Rattle.refusals.specs.declared.Refusal.TheVariants.{Range}
 use Rattle.refusals.specs.Search.{first_below}
-use Rattle.refusals.specs.Verdict.{first_refusal, if_accepted}
 use Rattle.refusals.proofs.Scan.{first_same, first_both}
-use Rattle.refusals.proofs.Verdicts.{broken, kept}
+use Rattle.refusals.proofs.Verdicts.{test_fails}
+use Rattle.refusals.proofs.Rules.{tried_err, tried_ok, found_err, found_ok}
 use Rattle.tables.specs.declared.Column.{Column}
 use Rattle.tables.specs.Lines.{value_lines}
 use Rattle.tables.specs.Table.{number_at, column}
 use Rattle.tables.specs.Reading.{Kept, within, Ranged}
 use Rattle.tables.proofs.Columns.{within_most, column_at, OfFile, of_file, read_all}
+use Rattle.recipe.specs.declared.Recipe.{Recipe}
 use Rattle.recipe.specs.Rules.{leaves_range, rule4, in_range}
-use Rattle.recipe.specs.Reader.{recipe_of, no_recipe}
-use Rattle.recipe.specs.Inner.{reading}
+use Rattle.recipe.specs.Reader.{recipe_of}
+use Rattle.recipe.specs.Inner.{after_range}
 
 leaves : List ℕ → ℕ → Bool
 leaves f = leaves_range (column f 0) (column f 1) (column f 2) (column f 3) (column f 4) (column f 5) (column f 6)
@@ -121,35 +124,37 @@ module _
           column_at f 6 i low,
         )
 
+    -- rule 4 of the file's record, by the lines that were read
+    stored_rule4 : line_verdict Range otherwise.lines count ≡ rule4 (recipe_of f)
+    unfolding first_line rule4 recipe_of leaves
+    stored_rule4 = rw (all, found)
+
+    -- what the reader answers from rule 4 on
+    abbrev answer : Result Recipe Broken
+    answer = found_if (first_refusal (rule4 (recipe_of f) ∷ after_range (recipe_of f))) (recipe_of f)
+
     -- a number leaves its range
-    pub stored_out : (rest : List Verdict) → otherwise.lines < count
-        → reading (Refused Range (otherwise.lines + 2)) no_recipe ≡ reading (first_refusal (rule4 (recipe_of f) ∷ rest))
-        (recipe_of f)
-    unfolding reading if_accepted rule4 recipe_of leaves
-    stored_out rest low =
-        ap (λ (v : Verdict). reading v (recipe_of f))
-        (broken Range (leaves f) (length (value_lines f)) otherwise.lines found rest (omega arith))
+    pub stored_out : {e : Broken} → line_verdict Range otherwise.lines count ≡ Err e → answer ≡ Err e
+    stored_out out = found_err _ _ (tried_err _ _ (sym stored_rule4 ∙ out))
 
     -- all are in range: the record is the file's, and rule 4 leaves it to the others
-    module _ (past : count ≤ otherwise.lines) where
-      pub stored_recipe : record {
-        count =
-            count;
-        point =
-            point.values;
-        kind =
-            kind.values;
-        op =
-            op.values;
-        takes =
-            takes.values;
+    module _ {done : Unit} (fine : line_verdict Range otherwise.lines count ≡ Ok done) where
+      abbrev stored : Recipe
+      stored = record {
+        count = count;
+        point = point.values;
+        kind = kind.values;
+        op = op.values;
+        takes = takes.values;
         gives = gives.values;
         then = then.values;
         otherwise = otherwise.values;
-      } ≡ recipe_of
-          f
-      unfolding recipe_of
+      }
+
+      stored_recipe : stored ≡ recipe_of f
+      unfolding recipe_of line_verdict
       stored_recipe =
+          let past : count ≤ otherwise.lines = ltb-false _ _ (test_fails _ _ _ fine) in
           let most0 : point.lines ≤ count = omega (arith, R0.fewer) in
           let most1 : kind.lines ≤ count = omega (arith, R1.fewer) in
           let most2 : op.lines ≤ count = omega (arith, R2.fewer) in
@@ -167,6 +172,15 @@ module _
           let e6 = read_all f 6 0 15 then.lines count otherwise R6 most5 past few all in
           λ i. record { count = all i; point = e0 i; kind = e1 i; op = e2 i; takes = e3 i; gives = e4 i; then = e5 i; otherwise = e6 i }
 
-      pub stored_fine : (rest : List Verdict) → first_refusal rest ≡ first_refusal (rule4 (recipe_of f) ∷ rest)
-      unfolding rule4 recipe_of leaves
-      stored_fine rest = kept Range (leaves f) (length (value_lines f)) otherwise.lines found rest (omega arith) refl
+      stored_judged :
+          {v : Verdict}
+          → v ≡ first_refusal (after_range stored)
+          → first_refusal (rule4 (recipe_of f) ∷ after_range (recipe_of f)) ≡ v
+      stored_judged judged =
+          tried_ok _ _ (sym stored_rule4 ∙ fine) ∙ sym (judged ∙ ap (λ (r : Recipe). first_refusal (after_range r)) stored_recipe)
+
+      pub stored_refused : {e : Broken} {v : Verdict} → v ≡ first_refusal (after_range stored) → v ≡ Err e → answer ≡ Err e
+      stored_refused judged is = found_err _ _ (stored_judged judged ∙ is)
+
+      pub stored_found : {d : Unit} {v : Verdict} → v ≡ first_refusal (after_range stored) → v ≡ Ok d → answer ≡ Ok stored
+      stored_found judged is = found_ok _ _ (stored_judged judged ∙ is) ∙ ap (λ (r : Recipe). Ok r) (sym stored_recipe)

@@ -1,10 +1,9 @@
 -- What the inner functions answer. Only their contracts cite it; what a call returns is defined without it. Assumes nothing.
 use Rattle.std.specs.Prelude.{Bool, List, [], ◌∷◌, ℕ, get_or}
-use Rattle.refusals.specs.declared.Verdict.{Verdict}
+use Rattle.refusals.specs.Verdict.{Verdict, if_accepted}
 use Rattle.refusals.specs.Search.{any_below, is_of}
-use Rattle.refusals.specs.Verdict.{if_accepted}
 use Rattle.recipe.specs.declared.Recipe.{Recipe}
-use Rattle.recipe.specs.declared.RecipeReading.{RecipeReading}
+use Rattle.recipe.specs.Reader.{RecipeReading}
 use Rattle.recipe.specs.Rules.{lacks_parts, shares_part, leads_out, rule7, rule8, rule9, rule10, rule11, rule12}
 use Rattle.recipe.specs.Reader.{no_recipe}
 

@@ -1,11 +1,10 @@
 -- What the reader of a recipe file returns. Assumes nothing.
-use Rattle.std.specs.Prelude.{List, [], ◌∷◌, ℕ, length, replicate}
-use Rattle.refusals.specs.declared.Verdict.{Verdict}
-use Rattle.refusals.specs.Verdict.{first_refusal, if_accepted}
+use Rattle.std.specs.Prelude.{Result, Ok, Err, List, [], ◌∷◌, ℕ, length, replicate}
+use Rattle.refusals.specs.declared.Broken.{Broken}
+use Rattle.refusals.specs.Verdict.{Verdict, Accepted, first_refusal, if_accepted}
 use Rattle.tables.specs.Lines.{value_lines}
 use Rattle.tables.specs.Table.{rule1, rule2, column}
 use Rattle.recipe.specs.declared.Recipe.{Recipe}
-use Rattle.recipe.specs.declared.RecipeReading.{RecipeReading}
 use Rattle.recipe.specs.Rules.{recipe_rules}
 
 -- "First line `point,kind,op,takes,gives,then,else`", in ASCII
@@ -30,6 +29,16 @@ abbrev pub no_recipe : Recipe
 no_recipe =
     let z : List ℕ = replicate 64 0 in
     record { count = 0; point = z; kind = z; op = z; takes = z; gives = z; then = z; otherwise = z }
+
+-- what the reader gives: its verdict and the record
+pub record RecipeReading : Type 0 where
+  pub verdict : Verdict
+  pub recipe : Recipe
+
+-- an answer of `read_recipe`: the record, or a refusal, with which there is a record of no lines
+unfoldable pub reading_of : Result Recipe Broken → RecipeReading
+reading_of (Ok recipe) = record { verdict = Accepted; recipe = recipe }
+reading_of (Err broken) = record { verdict = Err broken; recipe = no_recipe }
 
 -- "a recipe file .. gets the plan or move it deserves or the first refusal of document 01's list that fits": what the reader returns
 unfoldable pub read_recipe : List ℕ → RecipeReading

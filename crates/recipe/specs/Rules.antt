@@ -1,10 +1,9 @@
 -- The rules on a recipe record, in the order of the refusal list. Each sees the first `count` lines alone.
 -- Assumes nothing.
 use Rattle.std.specs.Prelude.{Bool, false, cond, not, ◌&&◌, ◌||◌, List, [], ◌∷◌, ℕ, zero, suc, ◌+◌, ◌/◌, ◌%◌, ◌^◌, get_or, eqb, leb}
-use Rattle.refusals.specs.declared.Verdict.{Verdict}
+use Rattle.refusals.specs.Verdict.{Verdict, first_refusal, first_line, rule3}
 use Rattle.refusals.specs.declared.Refusal.TheVariants.{Range, PointOrder, RepeatedPoint, UnusedField, NoParts, CommonPart, TargetPoint}
 use Rattle.refusals.specs.Search.{any_below, count_below, is_of}
-use Rattle.refusals.specs.Verdict.{first_refusal, first_line, rule3}
 use Rattle.recipe.specs.declared.Recipe.{Recipe}
 
 -- "Point, then, else: 0 to 15; op 0 to 63; takes and gives 0 to 255; kind 0 end, 1 do, 2 test."

@@ -9,15 +9,24 @@ mod reader;
 mod targets;
 
 ghost use Rattle.std.specs.Prelude.{◌≡◌, [], ◌∷◌, ◌<◌, ◌≤◌};
-ghost use Rattle.refusals.specs.Verdict.{first_refusal};
-ghost use Rattle.recipe.specs.Reader.{read_recipe};
+ghost use Rattle.refusals.specs.Verdict.{Accepted, first_refusal};
+ghost use Rattle.recipe.specs.Reader.{read_recipe, reading_of};
 ghost use Rattle.recipe.specs.Rules.{rule4, rule7, rule8, rule9, rule10, rule11, rule12, check_recipe};
 ghost use Rattle.recipe.specs.Inner.{after_range};
 
-use refusals::{Refusal, Verdict};
-use tables::Form;
+use refusals::{Broken, Refusal, Verdict};
 
-// The lines of a recipe, an array for each field; what lies past the count counts for nothing.
+// The kinds of a line, as bytes: a record handed in may have any other. An end leads nowhere.
+pub const END: u8 = 0;
+
+// A do leads to its `then`.
+pub const DO: u8 = 1;
+
+// A test leads to its `then` and to its `else`.
+pub const TEST: u8 = 2;
+
+// The lines of a recipe, an array for each field; what lies past the count counts for nothing. No Vec of lines: memory is fixed, and
+// the definitions (`leaves_range`, `breaks_order` and the others of specs/Rules) and what is proved of them speak of the columns.
 // `otherwise` is the field that the file calls else.
 #[derive(Clone, Copy)]
 pub struct Recipe {
@@ -31,112 +40,93 @@ pub struct Recipe {
     pub otherwise: [u8; 64],
 }
 
-// What a reader returns: the record, or a record of no lines with the refusal.
-#[derive(Clone, Copy)]
-pub struct RecipeReading {
-    pub verdict: Verdict,
-    pub recipe: Recipe,
-}
-
 // Rule 4, on a record that passed rule 3.
-fn check_ranges(recipe: Recipe) -> Verdict
-    requires { recipe.count ≤ 64 }
-    ensures { result ≡ rule4 recipe }
+#[tactic(auto, unfolding(crate::specs::Rules::rule4, refusals::specs::Verdict::first_line))]
+fn check_ranges(recipe: &Recipe) -> Verdict
+    requires { recipe.now.count ≤ 64 }
+    ensures { result ≡ rule4 recipe.now }
 {
-    let first = range::first_out_of_range(recipe);
-    refusals::at_line(Refusal::Range, first, recipe.count)
+    refusals::at_line(
+        Refusal::Range,
+        range::first_out_of_range(recipe),
+        recipe.count,
+    )
 }
 
 // Rules 7 and 8, on a record that passed rule 3.
-fn check_order(recipe: Recipe) -> Verdict
-    requires { recipe.count ≤ 64 }
-    ensures { result ≡ first_refusal (rule7 recipe ∷ rule8 recipe ∷ []) }
+#[tactic(auto, using(refusals::proofs::Rules::tried, crate::proofs::PointOrder::ordered_all), unfolding(crate::specs::Rules::rule7, crate::specs::Rules::rule8, refusals::specs::Verdict::first_line))]
+fn check_order(recipe: &Recipe) -> Verdict
+    requires { recipe.now.count ≤ 64 }
+    ensures { result ≡ first_refusal (rule7 recipe.now ∷ rule8 recipe.now ∷ []) }
 {
-    let count = recipe.count;
-    let point = recipe.point;
-    let kind = recipe.kind;
-    let then = recipe.then;
-    let first = points::first_out_of_order(&point, count);
-    if first < count {
-        return Verdict::Refused(Refusal::PointOrder, first + 2);
-    }
-    let first = points::first_bad_repeat(&point, &kind, &then, count);
-    refusals::at_line(Refusal::RepeatedPoint, first, count)
+    let first = points::first_out_of_order(recipe);
+    refusals::at_line(Refusal::PointOrder, first, recipe.count)?;
+    let first = points::first_bad_repeat(recipe);
+    refusals::at_line(Refusal::RepeatedPoint, first, recipe.count)
 }
 
 // Rules 9 and 10, on a record that passed rule 3.
-fn check_fields(recipe: Recipe) -> Verdict
-    requires { recipe.count ≤ 64 }
-    ensures { result ≡ first_refusal (rule9 recipe ∷ rule10 recipe ∷ []) }
+#[tactic(auto, using(refusals::proofs::Rules::tried), unfolding(crate::specs::Rules::rule9, crate::specs::Rules::rule10, refusals::specs::Verdict::first_line))]
+fn check_fields(recipe: &Recipe) -> Verdict
+    requires { recipe.now.count ≤ 64 }
+    ensures { result ≡ first_refusal (rule9 recipe.now ∷ rule10 recipe.now ∷ []) }
 {
-    let first = fields::first_unused(recipe);
-    if first < recipe.count {
-        return Verdict::Refused(Refusal::UnusedField, first + 2);
-    }
-    let first = fields::first_without_parts(recipe);
-    refusals::at_line(Refusal::NoParts, first, recipe.count)
+    refusals::at_line(
+        Refusal::UnusedField,
+        fields::first_unused(recipe),
+        recipe.count,
+    )?;
+    refusals::at_line(
+        Refusal::NoParts,
+        fields::first_without_parts(recipe),
+        recipe.count,
+    )
 }
 
 // Rules 11 and 12, on a record that passed rules 3 and 7: both count on the order of the points.
-fn check_parts(recipe: Recipe) -> Verdict
-    requires count_nonzero { (0 < recipe.count) × (recipe.count ≤ 64) }
-    requires recipe_value { rule7 recipe ≡ Verdict.Accepted }
-    ensures { result ≡ first_refusal (rule11 recipe ∷ rule12 recipe ∷ []) }
+#[tactic(auto, using(refusals::proofs::Rules::tried, crate::proofs::PointOrder::ordered_all), unfolding(crate::specs::Rules::rule11, crate::specs::Rules::rule12, refusals::specs::Verdict::first_line))]
+fn check_parts(recipe: &Recipe) -> Verdict
+    requires count_nonzero { (0 < recipe.now.count) × (recipe.now.count ≤ 64) }
+    requires recipe_value { rule7 recipe.now ≡ Accepted }
+    ensures { result ≡ first_refusal (rule11 recipe.now ∷ rule12 recipe.now ∷ []) }
 {
-    let count = recipe.count;
-    let point = recipe.point;
-    let takes = recipe.takes;
-    let gives = recipe.gives;
-    let first = parts::first_common(&point, &takes, &gives, count);
-    if first < count {
-        return Verdict::Refused(Refusal::CommonPart, first + 2);
-    }
-    let all = points::point_count(&point, count);
-    let first = targets::first_leading_out(recipe, all);
-    refusals::at_line(Refusal::TargetPoint, first, count)
+    let first = parts::first_common(recipe);
+    refusals::at_line(Refusal::CommonPart, first, recipe.count)?;
+    let points = points::point_count(recipe);
+    refusals::at_line(
+        Refusal::TargetPoint,
+        targets::first_leading_out(recipe, points),
+        recipe.count,
+    )
 }
 
 // Rules 7 to 12, on a record that passed rules 3 and 4.
-pub fn check_points(recipe: Recipe) -> Verdict
-    requires { (0 < recipe.count) × (recipe.count ≤ 64) }
-    ensures { result ≡ first_refusal (after_range recipe) }
+#[tactic(auto, using(refusals::proofs::Rules::tried, refusals::proofs::Rules::first_accepts), unfolding(crate::specs::Inner::after_range))]
+pub fn check_points(recipe: &Recipe) -> Verdict
+    requires { (0 < recipe.now.count) × (recipe.now.count ≤ 64) }
+    ensures { result ≡ first_refusal (after_range recipe.now) }
 {
-    let ordered = check_order(recipe);
-    let Verdict::Accepted = ordered else {
-        return ordered;
-    };
-    let filled = check_fields(recipe);
-    let Verdict::Accepted = filled else {
-        return filled;
-    };
+    check_order(recipe)?;
+    check_fields(recipe)?;
     check_parts(recipe)
 }
 
 // Rules 3, 4 and 7 to 12 on a record handed in, whatever is in it.
+#[tactic(auto, using(refusals::proofs::Rules::tried, refusals::proofs::Verdicts::count_some, refusals::proofs::Verdicts::count_most), unfolding(crate::specs::Rules::check_recipe, crate::specs::Rules::recipe_rules, crate::specs::Inner::after_range))]
 pub fn check_recipe(recipe: Recipe) -> Verdict
     ensures { result ≡ check_recipe recipe }
 {
-    let counted = refusals::check_count(recipe.count);
-    let Verdict::Accepted = counted else {
-        return counted;
-    };
-    let ranged = check_ranges(recipe);
-    let Verdict::Accepted = ranged else {
-        return ranged;
-    };
-    check_points(recipe)
+    refusals::check_count(recipe.count)?;
+    check_ranges(&recipe)?;
+    check_points(&recipe)
 }
 
 // The recipe that a file writes, whatever is in it.
-pub fn read_recipe(file: &[u8]) -> RecipeReading
-    ensures { result ≡ read_recipe file.now }
+pub fn read_recipe(file: &[u8]) -> Result<Recipe, Broken>
+    ensures { reading_of result ≡ read_recipe file.now }
 {
-    if !tables::rules::has_names(file, b"point,kind,op,takes,gives,then,else\n") {
-        return reader::refused(Refusal::Names, 1);
-    }
+    tables::rules::check_names(file, b"point,kind,op,takes,gives,then,else\n")?;
     let mut numbers = [0u32; 448];
-    match tables::rules::check_lines(file, 7, &mut numbers) {
-        Form::Broken(n) => reader::refused(Refusal::Form, n + 2),
-        Form::Whole(count) => reader::read_lines(&numbers, count),
-    }
+    let count = tables::rules::check_lines(file, 7, &mut numbers)?;
+    reader::read_lines(&numbers, count)
 }

@@ -4,53 +4,34 @@ ghost use Rattle.refusals.specs.Search.{first_below};
 ghost use Rattle.recipe.specs.Rules.{common, breaks_order};
 ghost use Rattle.recipe.specs.Inner.{breaks_common};
 
-use crate::points;
+use crate::{Recipe, points};
+use refusals::search;
 
 // Whether two sums have a part in common.
+#[tactic(auto, using(crate::proofs::CommonParts::common_and))]
 fn common(a: u8, b: u8) -> bool
     ensures { result ≡ common a b }
 {
     a & b != 0
 }
 
-// Whether two lines both take, or both give, a common part.
-fn shares(takes: u8, gives: u8, takes2: u8, gives2: u8) -> bool
-    ensures { result ≡ (common takes takes2 || common gives gives2) }
-{
-    if common(takes, takes2) {
-        return true;
-    }
-    common(gives, gives2)
-}
-
 // Whether line n breaks rule 11 with an earlier line, which is one of its point.
-fn shares_before(point: &[u8; 64], takes: &[u8; 64], gives: &[u8; 64], n: usize) -> bool
+fn shares_before(recipe: &Recipe, n: usize) -> bool
     requires n_bound { n < 64 }
-    requires n_value { first_below (breaks_order point.now) (n + 1) ≡ n + 1 }
-    ensures { result ≡ breaks_common point.now takes.now gives.now n }
+    requires n_value { first_below (breaks_order recipe.now.point) (n + 1) ≡ n + 1 }
+    ensures { result ≡ breaks_common recipe.now.point recipe.now.takes recipe.now.gives n }
 {
-    let mut k = points::point_start(point, n);
-    while k < n {
-        if shares(takes[n], gives[n], takes[k], gives[k]) {
-            return true;
-        }
-        k += 1;
-    }
-    false
+    (points::point_start(recipe, n)..n).any(|k| {
+        common(recipe.takes[n], recipe.takes[k]) || common(recipe.gives[n], recipe.gives[k])
+    })
 }
 
 // The first line that breaks rule 11, or the count.
-pub fn first_common(point: &[u8; 64], takes: &[u8; 64], gives: &[u8; 64], count: usize) -> usize
-    requires count_bound { count ≤ 64 }
-    requires count_value { first_below (breaks_order point.now) count ≡ count }
-    ensures { result ≡ first_below (breaks_common point.now takes.now gives.now) count }
+#[tactic(auto, using(crate::proofs::PointOrder::ordered_to))]
+pub fn first_common(recipe: &Recipe) -> usize
+    requires count_bound { recipe.now.count ≤ 64 }
+    requires count_value { first_below (breaks_order recipe.now.point) recipe.now.count ≡ recipe.now.count }
+    ensures { result ≡ first_below (breaks_common recipe.now.point recipe.now.takes recipe.now.gives) recipe.now.count }
 {
-    let mut i = 0;
-    while i < count {
-        if shares_before(point, takes, gives, i) {
-            return i;
-        }
-        i += 1;
-    }
-    count
+    search::first_below(recipe.count, |n| shares_before(recipe, n))
 }

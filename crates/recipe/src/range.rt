@@ -1,48 +1,28 @@
 // Rule 4: the ranges of a recipe line's numbers.
-ghost use Rattle.std.specs.Prelude.{◌≡◌, ◌≤◌};
+ghost use Rattle.std.specs.Prelude.{◌≡◌, ◌<◌, ◌≤◌};
 ghost use Rattle.refusals.specs.Search.{first_below};
-ghost use Rattle.recipe.specs.Rules.{in_range, leaves_range};
+ghost use Rattle.recipe.specs.Rules.{leaves_range};
 
 use crate::Recipe;
+use refusals::search;
 
-// Whether the numbers of a line are each in its range; a byte can't leave that of takes and gives.
-fn in_range(point: u8, kind: u8, op: u8, takes: u8, gives: u8, then: u8, otherwise: u8) -> bool
-    ensures { result ≡ in_range point kind op takes gives then otherwise }
+// Whether a number of line n leaves its range; a byte can't leave that of takes and gives.
+#[tactic(auto, unfolding(crate::specs::Rules::leaves_range, crate::specs::Rules::in_range))]
+fn leaves_range(recipe: &Recipe, n: usize) -> bool
+    requires { n < 64 }
+    ensures { result ≡ leaves_range recipe.now.point recipe.now.kind recipe.now.op recipe.now.takes recipe.now.gives recipe.now.then recipe.now.otherwise n }
 {
-    if 15 < point {
-        return false;
-    }
-    if 2 < kind {
-        return false;
-    }
-    if 63 < op {
-        return false;
-    }
-    if 15 < then {
-        return false;
-    }
-    otherwise <= 15
+    15 < recipe.point[n]
+        || 2 < recipe.kind[n]
+        || 63 < recipe.op[n]
+        || 15 < recipe.then[n]
+        || 15 < recipe.otherwise[n]
 }
 
 // The first line of which a number leaves its range, or the count.
-pub fn first_out_of_range(recipe: Recipe) -> usize
-    requires { recipe.count ≤ 64 }
-    ensures { result ≡ first_below (leaves_range recipe.point recipe.kind recipe.op recipe.takes recipe.gives recipe.then recipe.otherwise) recipe.count }
+pub fn first_out_of_range(recipe: &Recipe) -> usize
+    requires { recipe.now.count ≤ 64 }
+    ensures { result ≡ first_below (leaves_range recipe.now.point recipe.now.kind recipe.now.op recipe.now.takes recipe.now.gives recipe.now.then recipe.now.otherwise) recipe.now.count }
 {
-    let mut i = 0;
-    while i < recipe.count {
-        if !in_range(
-            recipe.point[i],
-            recipe.kind[i],
-            recipe.op[i],
-            recipe.takes[i],
-            recipe.gives[i],
-            recipe.then[i],
-            recipe.otherwise[i],
-        ) {
-            return i;
-        }
-        i += 1;
-    }
-    recipe.count
+    search::first_below(recipe.count, |n| leaves_range(recipe, n))
 }

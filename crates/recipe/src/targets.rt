@@ -1,38 +1,30 @@
 // Rule 12: the points to which a line leads.
-ghost use Rattle.std.specs.Prelude.{◌≡◌, ◌≤◌};
+ghost use Rattle.std.specs.Prelude.{◌≡◌, ◌<◌, ◌≤◌};
 ghost use Rattle.refusals.specs.Search.{first_below};
-ghost use Rattle.recipe.specs.Rules.{leads_out};
 ghost use Rattle.recipe.specs.Inner.{breaks_target};
 
-use crate::Recipe;
+use crate::{DO, Recipe, TEST};
+use refusals::search;
 
-// Whether a line leads to a point that isn't there. An end leads nowhere.
-fn leads_out(points: usize, kind: u8, then: u8, otherwise: u8) -> bool
-    ensures { result ≡ leads_out points kind then otherwise }
+// Whether line n leads to a point that isn't there. An end leads nowhere.
+#[tactic(auto, unfolding(crate::specs::Rules::leads_out))]
+fn leads_out(recipe: &Recipe, points: usize, n: usize) -> bool
+    requires { n < 64 }
+    ensures { result ≡ breaks_target points recipe.now.kind recipe.now.then recipe.now.otherwise n }
 {
-    match kind {
-        1 => points <= then as usize,
-        2 => {
-            if points <= then as usize {
-                return true;
-            }
-            points <= otherwise as usize
-        }
+    let then = recipe.then[n] as usize;
+    let otherwise = recipe.otherwise[n] as usize;
+    match recipe.kind[n] {
+        DO => points <= then,
+        TEST => points <= then || points <= otherwise,
         _ => false,
     }
 }
 
 // The first line that breaks rule 12, or the count.
-pub fn first_leading_out(recipe: Recipe, points: usize) -> usize
-    requires { recipe.count ≤ 64 }
-    ensures { result ≡ first_below (breaks_target points recipe.kind recipe.then recipe.otherwise) recipe.count }
+pub fn first_leading_out(recipe: &Recipe, points: usize) -> usize
+    requires { recipe.now.count ≤ 64 }
+    ensures { result ≡ first_below (breaks_target points recipe.now.kind recipe.now.then recipe.now.otherwise) recipe.now.count }
 {
-    let mut i = 0;
-    while i < recipe.count {
-        if leads_out(points, recipe.kind[i], recipe.then[i], recipe.otherwise[i]) {
-            return i;
-        }
-        i += 1;
-    }
-    recipe.count
+    search::first_below(recipe.count, |n| leads_out(recipe, points, n))
 }

@@ -4,27 +4,27 @@ use mathlib.Core.Path.{◌≡◌, refl, sym, ap, ◌∙◌}
 use mathlib.Core.List.{List, [], ◌∷◌, ◌++◌}
 use Prim.Native.Nat.{ℕ}
 use Rattle.refusals.specs.declared.Refusal.{Refusal}
-use Rattle.refusals.specs.declared.Verdict.{Verdict}
-use Rattle.refusals.specs.declared.Verdict.TheVariants.{Accepted, Refused}
-use Rattle.refusals.specs.Verdict.{first_refusal}
+use Rattle.refusals.specs.declared.Broken.{Broken}
+use Rattle.std.specs.Prelude.{Ok, Err}
+use Rattle.refusals.specs.Verdict.{Verdict, Accepted, Refused, first_refusal, found_if}
 
 -- the first part of a list counts as one rule before the others
 joined : (rules rest : List Verdict) → first_refusal (rules ++ rest) ≡ first_refusal (first_refusal rules ∷ rest)
 unfolding first_refusal
 joined [] rest = refl
 joined (Accepted ∷ rules) rest = joined rules rest
-joined (Refused refusal line ∷ rules) rest = refl
+joined (Err broken ∷ rules) rest = refl
 
 -- a list that accepts: its first rule does, and the others do
 pub first_accepts : (v : Verdict) (rest : List Verdict) → first_refusal (v ∷ rest) ≡ Accepted → v ≡ Accepted
 unfolding first_refusal
 first_accepts Accepted rest e = refl
-first_accepts (Refused refusal line) rest e = e
+first_accepts (Err broken) rest e = e
 
 pub rest_accepts : (v : Verdict) (rest : List Verdict) → first_refusal (v ∷ rest) ≡ Accepted → first_refusal rest ≡ Accepted
 unfolding first_refusal
 rest_accepts Accepted rest e = e
-rest_accepts (Refused refusal line) rest e = cc
+rest_accepts (Err broken) rest e = cc
 
 -- and each of its parts does
 pub left_accepts : (rules rest : List Verdict) → first_refusal (rules ++ rest) ≡ Accepted → first_refusal rules ≡ Accepted
@@ -54,7 +54,7 @@ decides {w = w} e = e ∙ alone w
   where
     alone : (x : Verdict) → x ≡ first_refusal (x ∷ [])
     alone Accepted = refl
-    alone (Refused refusal line) = refl
+    alone (Err broken) = refl
 
 -- the same of the rules of a part
 pub part_refuses :
@@ -71,3 +71,56 @@ pub part_accepts :
     → x ≡ first_refusal rest
     → x ≡ first_refusal (rules ++ rest)
 part_accepts rules rest e told next = accepts rest e told next ∙ sym (joined rules rest)
+
+-- code that passes a refusal on as soon as a rule is broken: one rule, the last, and a part of the list
+pub tried_err : {e : Broken} (v : Verdict) (rest : List Verdict) → v ≡ Err e → first_refusal (v ∷ rest) ≡ Err e
+unfolding first_refusal
+tried_err v rest is = rw is
+
+pub tried_ok : {done : Unit} (v : Verdict) (rest : List Verdict) → v ≡ Ok done → first_refusal (v ∷ rest) ≡ first_refusal rest
+unfolding first_refusal
+tried_ok v rest is = rw is
+
+pub tried_last : (v : Verdict) → first_refusal (v ∷ []) ≡ v
+tried_last v = sym (decides refl)
+
+pub part_err : {e : Broken} (rules rest : List Verdict) → first_refusal rules ≡ Err e → first_refusal (rules ++ rest) ≡ Err e
+part_err rules rest is = joined rules rest ∙ tried_err _ rest is
+
+pub part_ok : {done : Unit} (rules rest : List Verdict) → first_refusal rules ≡ Ok done → first_refusal (rules ++ rest) ≡ first_refusal rest
+part_ok rules rest is = joined rules rest ∙ tried_ok _ rest is
+
+-- a part of two rules
+pub pair_err : {e : Broken} (v w : Verdict) (rest : List Verdict) → first_refusal (v ∷ w ∷ []) ≡ Err e → first_refusal (v ∷ w ∷ rest) ≡ Err e
+pair_err v w rest is = part_err (v ∷ w ∷ []) rest is
+
+pub pair_ok : {done : Unit} (v w : Verdict) (rest : List Verdict) → first_refusal (v ∷ w ∷ []) ≡ Ok done → first_refusal (v ∷ w ∷ rest) ≡ first_refusal rest
+pair_ok v w rest is = part_ok (v ∷ w ∷ []) rest is
+
+-- what is found where a verdict accepts, and what where it refuses
+pub found_err : {A : Type 0} {e : Broken} (v : Verdict) (found : A) → v ≡ Err e → found_if v found ≡ Err e
+unfolding found_if
+found_err v found is = rw is
+
+pub found_ok : {A : Type 0} {done : Unit} (v : Verdict) (found : A) → v ≡ Ok done → found_if v found ≡ Ok found
+unfolding found_if
+found_ok v found is = rw is
+
+-- and back
+pub refused_of : {A : Type 0} {e : Broken} (v : Verdict) (found : A) → found_if v found ≡ Err e → v ≡ Err e
+unfolding found_if
+refused_of Accepted found is = cc
+refused_of (Err broken) found is = cc
+
+pub accepted_of : {A : Type 0} {x : A} (v : Verdict) (found : A) → found_if v found ≡ Ok x → v ≡ Accepted
+unfolding found_if
+accepted_of Accepted found is = refl
+accepted_of (Err broken) found is = cc
+
+pub found_of : {A : Type 0} {x : A} (v : Verdict) (found : A) → found_if v found ≡ Ok x → x ≡ found
+unfolding found_if
+found_of Accepted found is = cc
+found_of (Err broken) found is = cc
+
+-- all that code needs that tries rules by `?`
+pub ruleset tried = (tried_err, tried_ok, tried_last, pair_err, pair_ok)

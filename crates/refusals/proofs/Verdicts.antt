@@ -13,11 +13,10 @@ use Rattle.refusals.specs.declared.Refusal.TheVariants.{RepeatedPoint, UnusedFie
 use Rattle.refusals.specs.declared.Refusal.TheVariants.{TooManyPositions, TooShort, NotRealisable, RunRange, OutcomeRange, NotOpen}
 use Rattle.refusals.specs.declared.Refusal.TheVariants.{AtEnd, LimitResource, FullCell, UnreachedPoint, RejectLine, Chapters}
 use Rattle.refusals.specs.declared.Refusal.TheVariants.{RunNumber}
-use Rattle.refusals.specs.declared.Verdict.{Verdict}
-use Rattle.refusals.specs.declared.Verdict.TheVariants.{Accepted, Refused}
+use Rattle.std.specs.Prelude.{Ok, Err}
+use Rattle.refusals.specs.Verdict.{Verdict, Accepted, Refused, first_refusal, line_verdict, first_line, no_line, rule3, refusal_in}
 use Rattle.refusals.specs.Search.{first_below}
 use Rattle.refusals.specs.Refusal.{number_of}
-use Rattle.refusals.specs.Verdict.{first_refusal, line_verdict, first_line, no_line, rule3, refusal_in}
 use Rattle.refusals.proofs.Scan.{first_le, first_none, first_past}
 
 pub and_left : (a b : Bool) → (a && b) ≡ true → a ≡ true
@@ -42,7 +41,7 @@ or_cases true b e = inl refl
 or_cases false b e = inr e
 
 -- a verdict by a test that accepts: the test fails
-test_fails : (b : Bool) (refusal : Refusal) (line : ℕ) → cond b (Refused refusal line) Accepted ≡ Accepted → b ≡ false
+pub test_fails : (b : Bool) (refusal : Refusal) (line : ℕ) → cond b (Refused refusal line) Accepted ≡ Accepted → b ≡ false
 test_fails true refusal line e = cc
 test_fails false refusal line e = refl
 
@@ -82,6 +81,12 @@ count_in_range count e =
     let no : (eqb count 0 || ltb 64 count) ≡ false = no_line_accepts _ _ e in
     let some : count ≡ 0 → ⊥ = eqb-false count 0 (search or_left) in
     record { some = omega arith; most = ltb-false 64 count (search or_right) }
+
+pub count_some : {done : Unit} (count : ℕ) → rule3 count ≡ Ok done → 1 ≤ count
+count_some count e = (count_in_range count e).some
+
+pub count_most : {done : Unit} (count : ℕ) → rule3 count ≡ Ok done → count ≤ 64
+count_most count e = (count_in_range count e).most
 
 -- a verdict that refuses does not accept
 pub refused_not : {v : Verdict} {refusal : Refusal} {line : ℕ} → v ≡ Refused refusal line → v ≡ Accepted → ⊥
@@ -133,4 +138,4 @@ number_some RunNumber = omega arith
 pub zero_accepts : (v : Verdict) → refusal_in v ≡ 0 → v ≡ Accepted
 unfolding refusal_in
 zero_accepts Accepted none = refl
-zero_accepts (Refused refusal line) none = absurd (omega (arith, number_some refusal))
+zero_accepts (Err broken) none = absurd (omega (arith, number_some broken.rule))

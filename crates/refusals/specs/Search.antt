@@ -1,6 +1,6 @@
 -- Searches over the numbers below a bound: the lines of a file, the parts, the resources.
 -- Assumes nothing.
-use Rattle.std.specs.Prelude.{Bool, true, false, cond, ◌&&◌, ◌||◌, List, [], ◌∷◌, ◌++◌, ℕ, zero, suc, max, get_or, eqb}
+use Rattle.std.specs.Prelude.{Bool, true, false, cond, ◌&&◌, ◌||◌, List, [], ◌∷◌, ◌++◌, ℕ, zero, suc, ◌≡◌, ◌<◌, max, get_or, eqb}
 
 -- the first number below n at which f holds, or n
 unfoldable pub first_below : (ℕ → Bool) → ℕ → ℕ
@@ -40,3 +40,7 @@ tabulate (suc n) f = tabulate n f ++ (f n ∷ [])
 unfoldable pub every : {A : Type 0} → (A → Bool) → List A → Bool
 every test [] = true
 every test (x ∷ rest) = test x && every test rest
+
+-- a test that answers each number below n as f does
+abbrev pub Answers : (ℕ → Bool → Type 0) → (ℕ → Bool) → ℕ → Type 0
+Answers answer f n = (i : ℕ) (holds : Bool) → i < n → answer i holds → holds ≡ f i

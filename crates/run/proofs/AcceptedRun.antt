@@ -7,8 +7,7 @@ use native.Mathlib.Omega.{arith}
 use lib.ListN.{length}
 use lib.Dec.{eqb, ltb}
 use borrow.Author.Tests.{eqb-true, eqb-false, ltb-true, ltb-false, not-false}
-use Rattle.refusals.specs.declared.Verdict.TheVariants.{Accepted}
-use Rattle.refusals.specs.Verdict.{first_refusal}
+use Rattle.refusals.specs.Verdict.{Accepted, first_refusal}
 use Rattle.refusals.proofs.Verdicts.{and_left, and_right, no_line_accepts}
 use Rattle.refusals.proofs.Rules.{first_accepts, rest_accepts, left_accepts, right_accepts}
 use Rattle.cell.specs.declared.Cell.{Cell}

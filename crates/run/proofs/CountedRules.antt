@@ -1,5 +1,5 @@
 -- The rules from 13 to 16 by what was counted of the chapters, and the place of an entry. Assumes nothing.
-use mathlib.Core.Path.{◌≡◌, sym, ap, ap₂, subst, ◌∙◌}
+use mathlib.Core.Path.{◌≡◌, refl, sym, ap, ap₂, subst, ◌∙◌}
 use mathlib.Core.Bool.{Bool, true, false, not}
 use mathlib.Core.List.{[], ◌∷◌}
 use Prim.Native.Nat.{ℕ, ◌+◌, ◌*◌, ◌<◌, ◌≤◌}
@@ -9,10 +9,10 @@ use native.Mathlib.Omega.{arith}
 use lib.ListN.{length}
 use lib.Dec.{ltb}
 use borrow.Author.Tests.{lt-ltb, le-ltb}
-use Rattle.refusals.specs.declared.Verdict.{Verdict}
-use Rattle.refusals.specs.declared.Verdict.TheVariants.{Accepted}
+use Rattle.std.specs.Prelude.{Result, Ok}
+use Rattle.refusals.specs.declared.Broken.{Broken}
+use Rattle.refusals.specs.Verdict.{Verdict, Accepted, first_refusal, no_line}
 use Rattle.refusals.specs.declared.Refusal.TheVariants.{TooShort, RunRange}
-use Rattle.refusals.specs.Verdict.{first_refusal, no_line}
 use Rattle.refusals.proofs.Rules.{first_accepts, rest_accepts}
 use Rattle.cell.specs.declared.Cell.{Cell}
 use Rattle.cell.specs.Rules.{check_cell}
@@ -52,29 +52,49 @@ position_there c rs p a = decide (dec_lt p.chapter (length rs))
         rw (le-ltb p.chapter (length rs) high, no_points rs p.chapter high, le-ltb p.point 0 none)
 
 -- where the rules on the chapters accept, sizes may be measured by what was counted
-module _ (c : Cell) (rs : Chapters) (wanted : ℕ) (s : Survey) (tried : Tried false c rs wanted s) (accepted : s.verdict ≡ Accepted) where
+module _ (c : Cell) (rs : Chapters) (wanted : ℕ) {r : Result Survey Broken} {s : Survey} (was : r ≡ Ok s) (tried : Tried false c rs wanted r) where
+  told : Tried false c rs wanted (Ok s)
+  told = rw was at tried
+
   pub cell_passed : check_cell c ≡ Accepted
-  cell_passed = (records_accepted false c rs (sym tried.told ∙ accepted)).cell_passes
+  cell_passed = (records_accepted false c rs told.0).cell_passes
 
   few : length rs ≤ 8
-  few = (records_accepted false c rs (sym tried.told ∙ accepted)).most
+  few = (records_accepted false c rs told.0).most
 
-  pub small : SmallSurvey s
+  small : SmallSurvey s
   small =
-      let R = records_accepted false c rs (sym tried.told ∙ accepted) in
-      small_survey rs wanted s (tried.counted accepted) R.recipes_pass R.most
+      let R = records_accepted false c rs told.0 in
+      small_survey rs wanted s told.1 R.recipes_pass R.most
+
+  pub most_few : s.most ≤ 16
+  most_few = small.most
+
+  pub own_few : s.own ≤ 16
+  own_few = small.own
+
+  pub parts_few : s.parts ≤ 8
+  parts_few = small.parts
 
 -- the sizes that were: of the chapter with most points, and of the run's
 pub record Measured (c : Cell) (rs : Chapters) (run : Run) (s : Survey) (most own : Sizes) : Type 0 where
-  pub tried : Tried false c rs run.chapter s
-  pub accepted : s.verdict ≡ Accepted
+  pub tried : Tried false c rs run.chapter (Ok s)
   pub most_is : most ≡ sizes_for c s.most s.parts
   pub most_fits : Fitting most
   pub own_is : own ≡ with_points most s.own
 
+pub measured : (c : Cell) (rs : Chapters) (run : Run) {r : Result Survey Broken} {s : Survey} {most own : Sizes}
+    → r ≡ Ok s
+    → Tried false c rs run.chapter r
+    → (most ≡ sizes_for c s.most s.parts) × Fitting most
+    → own ≡ with_points most s.own
+    → Measured c rs run s most own
+measured c rs run was tried most own =
+    record { tried = rw was at tried; most_is = most.0; most_fits = most.1; own_is = own }
+
 module _ (c : Cell) (rs : Chapters) (run : Run) (s : Survey) (most own : Sizes) (M : Measured c rs run s most own) where
   counts : Counted rs run.chapter s
-  counts = M.tried.counted M.accepted
+  counts = M.tried.1
 
   own_here : own ≡ sizes_in c rs run.chapter
   own_here = M.own_is ∙ ap (λ (z : Sizes). with_points z s.own) M.most_is ∙ own_sizes rs run.chapter s counts c
@@ -116,7 +136,7 @@ module _ (c : Cell) (rs : Chapters) (run : Run) (s : Survey) (most own : Sizes) 
   wide_small = omega (arith, wide_most)
 
   pub needed_small : s.all * (most.joint * most.ways) < 18446744073709551616
-  needed_small = omega (arith, mul-le-mul (small c rs run.chapter s M.tried M.accepted).all wide_most)
+  needed_small = omega (arith, mul-le-mul (small c rs run.chapter refl M.tried).all wide_most)
 
   -- where these rules accept, the run's position lies in the table
   module _ (entries : ℕ) (passed : first_refusal (table_rules (sizes_in c rs) (length rs) entries run) ≡ Accepted) where
@@ -150,7 +170,7 @@ module _ (c : Cell) (rs : Chapters) (run : Run) (s : Survey) (most own : Sizes) 
       -- nor are these sums and products too large
       most_entries : begins (sizes_in c rs) (length rs) ≤ 8388608
       unfolding table_rules
-      most_entries = few_entries (sizes_in c rs) (length rs) (first_accepts _ _ passed) (few c rs run.chapter s M.tried M.accepted)
+      most_entries = few_entries (sizes_in c rs) (length rs) (first_accepts _ _ passed) (few c rs run.chapter refl M.tried)
 
       pub before_small : s.before * (most.joint * most.ways) < 18446744073709551616
       before_small = omega (arith, inside_all, most_entries)

@@ -1,8 +1,8 @@
 -- "The run": the calls on a run, with the rules that each tries. Assumes nothing.
-use Rattle.std.specs.Prelude.{◌≡◌, false, cond, not, List, [], ◌∷◌, ◌++◌, ℕ, length, get_or, eqb, ltb}
-use Rattle.refusals.specs.declared.Verdict.{Verdict}
+use Rattle.std.specs.Prelude.{◌≡◌, false, cond, not, Result, Ok, Err, List, [], ◌∷◌, ◌++◌, ℕ, length, get_or, eqb, ltb}
+use Rattle.refusals.specs.declared.Broken.{Broken}
+use Rattle.refusals.specs.Verdict.{Verdict, Accepted, first_refusal, no_line, if_accepted}
 use Rattle.refusals.specs.declared.Refusal.TheVariants.{OutcomeRange, NotOpen, AtEnd}
-use Rattle.refusals.specs.Verdict.{first_refusal, no_line, if_accepted}
 use Rattle.cell.specs.declared.Cell.{Cell}
 use Rattle.positions.specs.declared.Configuration.{Configuration}
 use Rattle.positions.specs.Position.{start}
@@ -11,9 +11,6 @@ use Rattle.chapters.specs.Joined.{Chapters, Point, point_in, recipe_at, kind_at,
 use Rattle.chapters.specs.Sizes.{Measures, parts_in, sizes_in, entry_in}
 use Rattle.chapters.specs.Rules.{record_rules, rule13, rule14, rule16}
 use Rattle.run.specs.declared.Run.{Run}
-use Rattle.run.specs.declared.Move.{Move}
-use Rattle.run.specs.declared.Report.{Report}
-use Rattle.run.specs.declared.Place.{Place}
 
 -- "A run and the book carry their chapter": the point of the joined recipe at which a run is, and the run at a point
 abbrev pub point_of : Run → Point
@@ -68,6 +65,16 @@ move_rules c rs table run = entry_rules c rs table run ++ (rule18 c rs table run
 unfoldable pub report_rules : Cell → Chapters → List ℕ → Run → ℕ → List Verdict
 report_rules c rs table run outcome = entry_rules c rs table run ++ (rule17 outcome ∷ rule18 c rs table run ∷ rule19 rs run ∷ [])
 
+-- what a next-move call gives: its verdict and the entry
+pub record Move : Type 0 where
+  pub verdict : Verdict
+  pub entry : ℕ
+
+-- an answer of `Run::next_move`: the entry, or a refusal, with which the entry is 0
+unfoldable pub move_of : Result ℕ Broken → Move
+move_of (Ok entry) = record { verdict = Accepted; entry = entry }
+move_of (Err broken) = record { verdict = Err broken; entry = 0 }
+
 -- "The next-move call gives the entry at the run's position." "a refused next-move returns entry 0"
 unfoldable pub next_move : Cell → Chapters → List ℕ → Run → Move
 next_move c rs table run =
@@ -85,6 +92,16 @@ next_run c rs table run outcome =
     let e = entry_at c rs table run in
     run_at (next_point rs (point_of run) e outcome) (makes c (recipe_at rs (point_of run)) run.point run.configuration e outcome)
 
+-- what a report gives: its verdict and a run
+pub record Report : Type 0 where
+  pub verdict : Verdict
+  pub run : Run
+
+-- an answer of `Run::report` on a run: the next one, or a refusal, with which it is this run
+unfoldable pub answered : Run → Result Run Broken → Report
+answered run (Ok next) = record { verdict = Accepted; run = next }
+answered run (Err broken) = record { verdict = Err broken; run = run }
+
 -- "A report takes a run and gives the next run"; "a refused report its own run"
 unfoldable pub report_of : Cell → Chapters → List ℕ → Run → ℕ → Report
 report_of c rs table run outcome =
@@ -96,6 +113,16 @@ report_of c rs table run outcome =
 pub record Stored (c : Cell) (rs : Chapters) (table : List ℕ) (before : Run) (outcome : ℕ) (verdict : Verdict) (after : Run) : Type 0 where
   pub told : verdict ≡ (report_of c rs table before outcome).verdict
   pub kept : after ≡ (report_of c rs table before outcome).run
+
+-- what a place call gives: its verdict and the place
+pub record Place : Type 0 where
+  pub verdict : Verdict
+  pub place : ℕ
+
+-- an answer of `Run::place`: the place, or a refusal, with which the place is 255
+unfoldable pub place_of : Result ℕ Broken → Place
+place_of (Ok place) = record { verdict = Accepted; place = place }
+place_of (Err broken) = record { verdict = Err broken; place = 255 }
 
 -- "A place call has no table and stops after rule 16; it gives a part's place, or 255 for a part number of P or more"; "a refused
 -- place call 255"; P is "the greatest over all" chapters

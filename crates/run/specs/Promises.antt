@@ -3,8 +3,7 @@ use Rattle.std.specs.Prelude.{◌≡◌, Bool, true, cond, not, ◌&&◌, List, 
 use Rattle.refusals.specs.Search.{every}
 use Rattle.refusals.specs.Refusal.{number_of}
 use Rattle.refusals.specs.declared.Refusal.TheVariants.{NotOpen}
-use Rattle.refusals.specs.declared.Verdict.{Verdict}
-use Rattle.refusals.specs.Verdict.{refusal_in}
+use Rattle.refusals.specs.Verdict.{Verdict, refusal_in}
 use Rattle.cell.specs.declared.Cell.{Cell}
 use Rattle.positions.specs.declared.Configuration.{Configuration}
 use Rattle.steps.specs.Limits.{none_overfull}

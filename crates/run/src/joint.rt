@@ -1,6 +1,6 @@
 // The joint between two chapters.
 ghost use Rattle.std.specs.Prelude.{◌≡◌, ◌+◌, ◌<◌};
-ghost use Rattle.refusals.specs.declared.Verdict.TheVariants.{Accepted};
+ghost use Rattle.refusals.specs.Verdict.{Accepted};
 ghost use Rattle.recipe.specs.Rules.{point_count, check_recipe};
 ghost use Rattle.chapters.specs.Joined.{point_in};
 ghost use Rattle.run.specs.Calls.{run_at};
@@ -14,24 +14,24 @@ fn pass(run: Run) -> Run
     requires { run.chapter < 8 }
     ensures { result ≡ run_at (point_in (run.chapter + 1) 0) run.configuration }
 {
-    let chapter = run.chapter + 1;
-    let configuration = run.configuration;
     Run {
         point: 0,
-        configuration,
-        chapter,
+        chapter: run.chapter + 1,
+        ..run
     }
 }
 
 // Where a run of an earlier chapter lands whose move led to its point.
-pub fn land(run: Run, recipe: Recipe) -> Run
-    requires recipe_value { check_recipe recipe ≡ Accepted }
-    requires point_bound { run.point < point_count recipe.point recipe.count }
+#[tactic(auto, using(crate::proofs::JointPassed::joint_passed, crate::proofs::JointPassed::joint_ahead))]
+pub fn land(run: Run, recipe: &Recipe) -> Run
+    requires recipe_value { check_recipe recipe.now ≡ Accepted }
+    requires point_bound { run.point < point_count recipe.now.point recipe.now.count }
     requires chapter_bound { run.chapter < 8 }
-    ensures { Landed recipe run result }
+    ensures { Landed recipe.now run result }
 {
-    if steps::point_kind(recipe, run.point) == 0 {
-        return pass(run);
+    if steps::point_kind(*recipe, run.point) == recipe::END {
+        pass(run)
+    } else {
+        run
     }
-    run
 }

@@ -11,7 +11,7 @@ use lib.ListN.{length, get_or, set}
 use lib.Seq.{get_or-set_same, get_or-set_other}
 use lib.Dec.{eqb}
 use borrow.Author.Tests.{eqb-true, eq-eqb, ltb-true, not-true}
-use Rattle.refusals.specs.declared.Verdict.TheVariants.{Accepted}
+use Rattle.refusals.specs.Verdict.{Accepted}
 use Rattle.refusals.specs.Search.{all_below, count_below, tabulate}
 use Rattle.refusals.proofs.EveryBelow.{all_by, all_at, count_same}
 use Rattle.refusals.proofs.TabulatedLists.{tabulate_at, tabulate_same, tabulate_set, length_tabulate}

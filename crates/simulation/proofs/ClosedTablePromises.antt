@@ -11,9 +11,7 @@ use lib.Dec.{eqb, ltb}
 use borrow.Author.Tests.{eqb-true, eqb-false, eq-eqb, ne_eqb, lt-ltb, le-ltb, ltb-false, not-true}
 use Rattle.refusals.specs.Search.{every}
 use Rattle.refusals.specs.declared.Refusal.TheVariants.{TooShort, RunRange, OutcomeRange, NotOpen, AtEnd}
-use Rattle.refusals.specs.declared.Verdict.{Verdict}
-use Rattle.refusals.specs.declared.Verdict.TheVariants.{Accepted, Refused}
-use Rattle.refusals.specs.Verdict.{first_refusal, no_line, if_accepted, refusal_in}
+use Rattle.refusals.specs.Verdict.{Verdict, Accepted, Refused, first_refusal, no_line, if_accepted, refusal_in}
 use Rattle.refusals.proofs.Verdicts.{and_left, and_right, no_line_kept}
 use Rattle.refusals.proofs.Rules.{accepts, decides, part_accepts}
 use Rattle.cell.specs.declared.Cell.{Cell}
@@ -33,9 +31,8 @@ use Rattle.chapters.specs.Rules.{record_rules, rule14, rule16, is_position_in}
 use Rattle.chapters.specs.Checked.{AllChecked}
 use Rattle.chapters.proofs.AcceptedChapters.{rules_of, few_of}
 use Rattle.run.specs.declared.Run.{Run}
-use Rattle.run.specs.declared.Report.{Report}
 use Rattle.run.specs.Calls.{run_at, table_rules, entry_rules, move_rules, report_rules, rule17, rule18, rule19, next_move, next_point, next_run, report_of}
-use Rattle.run.specs.Calls.{point_of}
+use Rattle.run.specs.Calls.{Report, point_of}
 use Rattle.run.specs.Book.{Book, Call, asks, reports, Answer, reported, Mover, Moment, Issue, opened, by_table, at_end, is_open, refusal_of}
 use Rattle.run.specs.Book.{made, point_after, is_accepted, turned, noted, answer, moments, answers, issued_by, issued}
 use Rattle.run.specs.Promises.{agree, rightly, never_shut, every_issue, was_open, of_carries, found_parts, carried_point, few_silent, never_overfull, Keeps, Promises}

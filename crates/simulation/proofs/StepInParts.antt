@@ -7,7 +7,7 @@ use native.Mathlib.Omega.{arith}
 use lib.ListN.{get_or}
 use lib.Dec.{eqb}
 use borrow.Author.Tests.{eq-eqb, ne_eqb}
-use Rattle.refusals.specs.declared.Verdict.TheVariants.{Accepted}
+use Rattle.refusals.specs.Verdict.{Accepted}
 use Rattle.refusals.proofs.EveryBelow.{all_by, all_at, any_none, count_same}
 use Rattle.refusals.proofs.TabulatedLists.{tabulate_at, tabulate_same}
 use Rattle.refusals.proofs.Verdicts.{and_left, and_right}

@@ -7,7 +7,7 @@ use native.Mathlib.Omega.{arith}
 use lib.ListN.{length}
 use lib.Dec.{eqb}
 use borrow.Author.Tests.{eqb-true, eqb-false, eq-eqb, ne_eqb, not-true}
-use Rattle.refusals.specs.declared.Verdict.TheVariants.{Accepted}
+use Rattle.refusals.specs.Verdict.{Accepted}
 use Rattle.refusals.proofs.EveryBelow.{any_not}
 use Rattle.refusals.proofs.TabulatedLists.{tabulate_is}
 use Rattle.refusals.proofs.Verdicts.{and_left, and_right}

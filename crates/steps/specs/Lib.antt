@@ -5,5 +5,6 @@ pub mod Gates
 pub mod Joint
 pub mod Carry
 pub mod Entry
+pub mod Kinds
 pub mod Effect
 pub mod Single

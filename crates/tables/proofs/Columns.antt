@@ -1,6 +1,6 @@
 -- A record's array that is filled with a table's numbers, line by line, as far as they are in range. Assumes nothing.
 use mathlib.Core.Path.{◌≡◌, refl, sym, ap, ◌∙◌}
-use mathlib.Core.Bool.{Bool, true, false, not}
+use mathlib.Core.Bool.{Bool, not}
 use mathlib.Core.List.{List, [], ◌∷◌, ◌++◌}
 use Prim.Native.Nat.{ℕ, zero, suc, ◌+◌, ◌-◌, ◌<◌, ◌≤◌}
 use native.Mathlib.Decide.{dec_lt}
@@ -8,7 +8,7 @@ use native.Mathlib.Omega.{arith}
 use lib.ListN.{length, get_or, drop, replicate, length-append, length-drop, length-replicate, get_or-replicate, get_or-append, get_or-eq_default}
 use lib.Seq.{ext_get_or, get_or-append-add, get_or-drop}
 use lib.Dec.{leb}
-use borrow.Author.Tests.{le-leb, lt-leb}
+use borrow.Author.Tests.{le-leb}
 use Rattle.refusals.specs.Search.{first_below, tabulate}
 use Rattle.refusals.proofs.Scan.{first_same}
 use Rattle.refusals.proofs.TabulatedLists.{length_tabulate, tabulate_at, tabulate_same}
@@ -30,18 +30,6 @@ within_most most n = rw (le-leb 0 n (omega arith))
 module _ (store : List ℕ) (j least most : ℕ) where
   abbrev pub outside : ℕ → Bool
   outside i = not (within least most (kept_number store j i))
-
-  pub outside_low : (i : ℕ) → kept_number store j i < least → outside i ≡ true
-  unfolding within
-  outside_low i low = rw (lt-leb least (kept_number store j i) low)
-
-  pub outside_high : (i : ℕ) → least ≤ kept_number store j i → most < kept_number store j i → outside i ≡ true
-  unfolding within
-  outside_high i low high = rw (le-leb least (kept_number store j i) low, lt-leb (kept_number store j i) most high)
-
-  pub inside : (i : ℕ) → least ≤ kept_number store j i → kept_number store j i ≤ most → outside i ≡ false
-  unfolding within
-  inside i low high = rw (le-leb least (kept_number store j i) low, le-leb (kept_number store j i) most high)
 
 pub column_at : (f : List ℕ) (j n : ℕ) → n < 64 → get_or (column f j) n 0 ≡ number_at f j n
 unfolding column

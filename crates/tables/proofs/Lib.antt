@@ -8,3 +8,4 @@ mod LineFields
 pub mod ValueLines
 pub mod KeptNumbers
 pub mod Columns
+pub mod FileRules

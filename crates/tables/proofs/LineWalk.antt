@@ -9,7 +9,7 @@ use lib.ListN.{length, get_or, take, drop, length-drop, drop_of_length-le, get_o
 use lib.Seq.{drop-drop, get_or-drop, take-suc}
 use borrow.Author.Tests.{lt-ltb, le-ltb}
 use Rattle.tables.specs.Lines.{parted, lines, value_lines, shown_line, extent, line_start}
-use Rattle.tables.specs.Reading.{NextLine, Found, up_to, past}
+use Rattle.tables.specs.Reading.{NextLine, Lies, Lacks, up_to, past}
 use Rattle.tables.proofs.TextPieces.{up_to_within, up_to_take, past_drop, lines_past, lines_none}
 
 pub no_lines : lines [] ≡ []
@@ -115,19 +115,13 @@ module _ (f : List ℕ) (k at : ℕ) (S : Stands f k at) where
           omega (arith, N.moved low, S.at_is (omega arith), ap length here)
 
 -- no such line
-pub found_none : (f : List ℕ) (n : ℕ) → length (value_lines f) ≤ n → Found f n (record { start = 0; length = 0 })
+found_none : (f : List ℕ) (n : ℕ) → length (value_lines f) ≤ n → Lacks f n
 unfolding shown_line line_start
 found_none f n high =
-    let none : get_or (value_lines f) n [] ≡ [] = get_or-eq_default (value_lines f) [] high in
-    record {
-      start_is = rw (le-ltb n (length (value_lines f)) high);
-      length_is = sym (ap length none);
-      inside = omega arith;
-      bytes = sym none;
-    }
+    record { fewer = high; start_is = rw (le-ltb n (length (value_lines f)) high); bytes = get_or-eq_default (value_lines f) [] high }
 
 -- the walk is at the file's end
-pub found_past : (f : List ℕ) (k at : ℕ) → Stands f k at → at ≡ length f → (n : ℕ) → k < n → Found f n (record { start = 0; length = 0 })
+pub found_past : (f : List ℕ) (k at : ℕ) → Stands f k at → at ≡ length f → (n : ℕ) → k < n → Lacks f n
 found_past f k at S end n more =
     let all : length f ≤ at = omega arith in
     let none : lines (drop at f) ≡ [] = ap lines (drop_of_length-le f all) ∙ no_lines in
@@ -135,13 +129,13 @@ found_past f k at S end n more =
 
 module _ (f : List ℕ) (n at : ℕ) (S : Stands f n at) where
   -- no byte 10 ends what stands here
-  pub found_end : (m : ℕ) → m ≡ length (up_to 10 (drop at f)) → m ≡ length f - at → Found f n (record { start = 0; length = 0 })
+  pub found_end : (m : ℕ) → m ≡ length (up_to 10 (drop at f)) → m ≡ length f - at → Lacks f n
   found_end m is end =
       let none : lines (drop at f) ≡ [] = lines_none (drop at f) (omega (arith, length-drop at f)) in
       found_none f n (omega (arith, lines_left f n at S, ap length none))
 
   -- the line
-  pub found_line : (m : ℕ) → m ≡ length (up_to 10 (drop at f)) → (m ≡ length f - at → ⊥) → Found f n (record { start = at; length = m })
+  pub found_line : (m : ℕ) → m ≡ length (up_to 10 (drop at f)) → (m ≡ length f - at → ⊥) → Lies f n (record { start = at; length = m })
   unfolding shown_line line_start
   found_line m is more =
       let low : length (up_to 10 (drop at f)) < length (drop at f) = omega (arith, length-drop at f, up_to_within 10 (drop at f), ne) in
@@ -150,6 +144,7 @@ module _ (f : List ℕ) (n at : ℕ) (S : Stands f n at) where
       ∙ ap (λ (l : List (List ℕ)). get_or l 0 []) (sym S.lines_are ∙ lines_past (drop at f) low) in
       let inside : n < length (value_lines f) = omega (arith, lines_left f n at S, ap length (lines_past (drop at f) low)) in
       record {
+        there = inside;
         start_is = rw (lt-ltb n (length (value_lines f)) inside) (S.at_is inside ∙ sym (start_at f n (omega arith)));
         length_is = is ∙ sym (ap length here);
         inside = omega (arith, length-drop at f);

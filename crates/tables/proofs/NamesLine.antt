@@ -1,38 +1,26 @@
 -- A file's start compared with a text, byte by byte. Assumes nothing.
-use mathlib.Core.Path.{◌≡◌, sym}
+use mathlib.Core.Path.{◌≡◌, refl}
 use mathlib.Core.Bool.{Bool, true, false, cond, ◌&&◌, false≢true}
 use mathlib.Core.List.{List, [], ◌∷◌, ◌++◌}
-use Prim.Native.Nat.{ℕ, suc, ◌+◌, ◌<◌, ◌≤◌}
-use native.Mathlib.Numerals.{add-one}
+use Prim.Native.Nat.{ℕ, suc, ◌<◌}
 use native.Mathlib.Omega.{arith}
-use lib.ListN.{length, get_or, drop, drop_of_length-le}
-use lib.Seq.{drop-cons}
+use lib.ListN.{length}
 use lib.Dec.{eqb}
-use borrow.Author.Tests.{eq-eqb, ne_eqb}
+use Rattle.std.specs.List.{starts_with}
+use Rattle.std.proofs.lemmas.Bool.Decides.{nat_tests}
 use Rattle.refusals.proofs.Verdicts.{and_right}
 use Rattle.tables.specs.Table.{starts}
 use Rattle.tables.specs.Reading.{up_to}
 
-module _ (names file : List ℕ) (i : ℕ) where
-  pub starts_more : i < length names → i < length file → get_or file i 0 ≡ get_or names i 0
-      → starts (drop i names) (drop i file) ≡ starts (drop (i + 1) names) (drop (i + 1) file)
-  unfolding starts
-  starts_more low inside e = rw (add-one, drop-cons names i 0, drop-cons file i 0, eq-eqb (get_or file i 0) (get_or names i 0) e)
-
-  pub starts_differs : i < length names → i < length file → (get_or file i 0 ≡ get_or names i 0 → ⊥) → starts (drop i names) (drop i file) ≡ false
-  unfolding starts
-  starts_differs low inside ne = rw (drop-cons names i 0, drop-cons file i 0, ne_eqb (get_or file i 0) (get_or names i 0) ne)
-
-  pub starts_short : i < length names → i ≡ length file → starts (drop i names) (drop i file) ≡ false
-  unfolding starts
-  starts_short low e = rw (drop-cons names i 0, drop_of_length-le file (le_of_eq (sym e)))
-    where
-      le_of_eq : {a b : ℕ} → a ≡ b → a ≤ b
-      le_of_eq e = omega arith
-
-  pub starts_whole : length names ≤ i → starts (drop i names) (drop i file) ≡ true
-  unfolding starts
-  starts_whole high = rw (drop_of_length-le names high)
+-- what the slice's own comparison finds
+pub starts_as : (names file : List ℕ) → starts_with eqb file names ≡ starts names file
+unfolding starts
+starts_as [] file = refl
+starts_as (x ∷ names) [] = refl
+starts_as (x ∷ names) (b ∷ file) = rw (eqb_turned x b, starts_as names file)
+  where
+    eqb_turned : (m n : ℕ) → eqb m n ≡ eqb n m
+    eqb_turned m n = grind (arith, nat_tests)
 
 -- a file that starts with a text and byte 10 has a line
 pub starts_named : (names file : List ℕ) → starts (names ++ (10 ∷ [])) file ≡ true → length (up_to 10 file) < length file

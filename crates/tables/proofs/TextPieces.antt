@@ -1,15 +1,18 @@
 -- A text that a byte parts: its first piece and the rest; and so the lines of a file, from where the line before ended.
 -- Assumes nothing.
 use mathlib.Core.Path.{◌≡◌, refl, sym, ap, ◌∙◌}
-use mathlib.Core.Bool.{Bool, true, false, cond}
+use mathlib.Core.Bool.{Bool, true, false, cond, not}
 use mathlib.Core.List.{List, [], ◌∷◌}
 use Prim.Native.Nat.{ℕ, suc, ◌+◌, ◌-◌, ◌<◌, ◌≤◌}
-use native.Mathlib.Numerals.{add-one}
+use native.Mathlib.Decide.{dec_lt}
 use native.Mathlib.Omega.{arith}
-use lib.Dec.{eqb}
-use lib.ListN.{length, get_or, take, drop, length-drop, drop_of_length-le}
-use lib.Seq.{drop-cons, drop-length, drop-drop, take_all}
-use borrow.Author.Tests.{eq-eqb, ne_eqb}
+use lib.Dec.{eqb, ltb}
+use lib.ListN.{length, take, drop, length-drop, drop_of_length-le}
+use lib.Seq.{drop-drop, take_all}
+use borrow.Author.Tests.{lt-ltb, le-ltb}
+use Rattle.std.specs.Prelude.{None, Some}
+use Rattle.std.specs.Option.{unwrap_or}
+use Rattle.std.specs.List.{position, position_or_len}
 use Rattle.tables.specs.Lines.{lengthened, parted, lines, extent}
 use Rattle.tables.specs.Reading.{NextLine, up_to, past, ended, last, unended}
 
@@ -41,18 +44,24 @@ module _ (x : ℕ) where
       step true h = refl
       step false h = ap (λ (l : List ℕ). b ∷ l) h
 
-  module _ (s : List ℕ) (i : ℕ) where
-    pub up_to_stop : i < length s → get_or s i 0 ≡ x → length (up_to x (drop i s)) ≡ 0
-    unfolding up_to
-    up_to_stop low e = rw (drop-cons s i 0, eq-eqb (get_or s i 0) x e)
+  -- what a search for the byte finds
+  up_to_position : (s : List ℕ) → position_or_len (λ b. eqb b x) s ≡ length (up_to x s)
+  unfolding up_to
+  up_to_position [] = refl
+  up_to_position (b ∷ s) = step (eqb b x) (up_to_position s)
+    where
+      step : (t : Bool) → position_or_len (λ b. eqb b x) s ≡ length (up_to x s)
+          → cond (not t) (1 + position_or_len (λ b. eqb b x) s) 0 ≡ length (cond t [] (b ∷ up_to x s))
+      step true h = refl
+      step false h = omega (arith, h)
 
-    pub up_to_more : i < length s → (get_or s i 0 ≡ x → ⊥) → length (up_to x (drop i s)) ≡ suc (length (up_to x (drop (i + 1) s)))
-    unfolding up_to
-    up_to_more low ne = rw (add-one, drop-cons s i 0, ne_eqb (get_or s i 0) x ne)
-
-    pub up_to_end : i ≡ length s → length (up_to x (drop i s)) ≡ 0
-    unfolding up_to
-    up_to_end e = rw (e, drop-length)
+  pub up_to_found : (s : List ℕ) → unwrap_or (position (λ b. eqb b x) s) (length s) ≡ length (up_to x s)
+  up_to_found s = rw up_to_position (decide (dec_lt (length (up_to x s)) (length s)))
+    where
+      decide : Dec (length (up_to x s) < length s)
+          → unwrap_or (cond (ltb (length (up_to x s)) (length s)) (Some (length (up_to x s))) None) (length s) ≡ length (up_to x s)
+      decide (yes low) = rw (lt-ltb (length (up_to x s)) (length s) low)
+      decide (no high) = rw (le-ltb (length (up_to x s)) (length s) (omega arith)) (omega (arith, up_to_within s))
 
   -- the first piece, where the byte stands in the text
   pub parted_past : (s : List ℕ) → length (up_to x s) < length s → parted x s ≡ up_to x s ∷ parted x (past x s)

@@ -1,8 +1,7 @@
 -- A number table: a names line, then value lines of k numbers. Rules 1 and 2, which it has to pass, and its columns.
 -- Assumes nothing.
 use Rattle.std.specs.Prelude.{Bool, true, false, cond, ◌&&◌, ◌||◌, List, [], ◌∷◌, ◌++◌, ℕ, suc, ◌+◌, length, get_or, eqb, ltb}
-use Rattle.refusals.specs.declared.Verdict.{Verdict}
-use Rattle.refusals.specs.declared.Verdict.TheVariants.{Accepted, Refused}
+use Rattle.refusals.specs.Verdict.{Verdict, Accepted, Refused}
 use Rattle.refusals.specs.declared.Refusal.TheVariants.{Names, Form}
 use Rattle.refusals.specs.Search.{tabulate}
 use Rattle.tables.specs.Lines.{parted, lines, value_lines, shown_line, extent}

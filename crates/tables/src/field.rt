@@ -11,17 +11,12 @@ pub fn column(numbers: &[u32], count: usize, field: usize, least: u32, most: u32
     ensures { Ranged numbers.now count field least most result }
 {
     let mut values = [0u8; 64];
-    let mut i = 0;
-    while i < count {
+    for i in 0..count {
         let n = numbers[i * 7 + field];
-        if n < least {
-            return Column { lines: i, values };
-        }
-        if most < n {
+        if n < least || most < n {
             return Column { lines: i, values };
         }
         values[i] = n as u8;
-        i += 1;
     }
     Column {
         lines: count,

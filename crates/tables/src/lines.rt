@@ -9,14 +9,9 @@ use crate::Span;
 fn line_length(text: &[u8]) -> usize
     ensures { result ≡ length (up_to 10 text.now) }
 {
-    let mut i = 0;
-    while i < text.len() {
-        if text[i] == 10 {
-            return i;
-        }
-        i += 1;
-    }
-    i
+    text.iter()
+        .position(|byte| *byte == b'\n')
+        .unwrap_or(text.len())
 }
 
 // Where the line after the one at `at` starts: the file's end where that one is the last.
@@ -28,38 +23,30 @@ pub fn next_line(file: &[u8], at: usize) -> usize
     if end < file.len() { end + 1 } else { end }
 }
 
-// Where value line n lies. The search stops at the file's end, however large n is.
-pub fn find_line(file: &[u8], n: usize) -> Span
+// Where value line n lies, if it is there. The search stops at the file's end, however large n is.
+pub fn find_line(file: &[u8], n: usize) -> Option<Span>
     ensures { Found file.now n result }
 {
     let mut at = next_line(file, 0);
-    let mut k = 0;
-    while k < n {
+    for _ in 0..n {
         if at == file.len() {
-            return Span {
-                start: 0,
-                length: 0,
-            };
+            return None;
         }
         at = next_line(file, at);
-        k += 1;
     }
     let length = line_length(&file[at..]);
     if length == file.len() - at {
-        return Span {
-            start: 0,
-            length: 0,
-        };
+        return None;
     }
-    Span { start: at, length }
+    Some(Span { start: at, length })
 }
 
 // Value line n as the bytes of the file itself, without byte 10; empty if there is none.
 pub fn show_line(file: &[u8], n: usize) -> &[u8]
     ensures { result.now ≡ shown_line file.now n }
 {
-    let span = find_line(file, n);
-    let start = span.start;
-    let end = start + span.length;
-    &file[start..end]
+    match find_line(file, n) {
+        Some(Span { start, length }) => &file[start..start + length],
+        None => &[],
+    }
 }

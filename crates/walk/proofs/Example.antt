@@ -6,15 +6,13 @@ use Prim.Native.Nat.{ℕ, ◌≤◌}
 use native.Mathlib.Omega.{arith}
 use lib.ListN.{length, take, get_or}
 use borrow.Author.Tests.{le-ltb}
-use Rattle.refusals.specs.declared.Verdict.{Verdict}
-use Rattle.refusals.specs.declared.Verdict.TheVariants.{Accepted}
+use Rattle.refusals.specs.Verdict.{Verdict, Accepted, first_refusal, first_line, no_line, rule3, if_accepted, line_verdict}
 use Rattle.refusals.specs.Search.{first_below, any_below, all_below, count_below, greatest_below, tabulate, is_of}
-use Rattle.refusals.specs.Verdict.{first_refusal, first_line, no_line, rule3, if_accepted, line_verdict}
 use Rattle.tables.specs.Numbers.{is_digit}
-use Rattle.cell.specs.declared.CellReading.{CellReading}
+use Rattle.cell.specs.Reader.{CellReading}
 use Rattle.cell.specs.Rules as cell
 use Rattle.cell.specs.Reader.{cell_names, read_cell}
-use Rattle.recipe.specs.declared.RecipeReading.{RecipeReading}
+use Rattle.recipe.specs.Reader.{RecipeReading}
 use Rattle.recipe.specs.Rules as recipe
 use Rattle.recipe.specs.Reader.{recipe_names, read_recipe}
 use Rattle.positions.specs.Radix.{sum_below, product_below}

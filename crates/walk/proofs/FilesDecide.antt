@@ -6,16 +6,19 @@ use native.Mathlib.Omega.{arith}
 use lib.ListN.{length, take, drop, length-take, length-append, length-drop}
 use lib.Seq.{take_all}
 use Rattle.refusals.specs.declared.Refusal.{Refusal}
+use Rattle.refusals.specs.declared.Broken.{Broken}
 use Rattle.refusals.specs.Refusal.{number_of}
-use Rattle.refusals.specs.declared.Verdict.{Verdict}
-use Rattle.refusals.specs.declared.Verdict.TheVariants.{Accepted, Refused}
+use Rattle.std.specs.Prelude.{Result, Ok, Err}
+use Rattle.refusals.specs.Verdict.{Verdict, Accepted, Refused, first_refusal, if_accepted, found_if}
 use Rattle.refusals.specs.Search.{tabulate}
-use Rattle.refusals.specs.Verdict.{first_refusal, if_accepted}
 use Rattle.tables.specs.Table.{column}
-use Rattle.cell.specs.declared.CellReading.{CellReading}
-use Rattle.cell.specs.Reader.{read_cell}
-use Rattle.recipe.specs.declared.RecipeReading.{RecipeReading}
+use Rattle.cell.specs.Reader.{CellReading}
+use Rattle.cell.specs.Reader as cell
+use Rattle.cell.specs.Reader.{no_cell, read_cell}
+use Rattle.cell.specs.declared.Cell.{Cell}
+use Rattle.recipe.specs.Reader.{RecipeReading}
 use Rattle.recipe.specs.declared.Recipe.{Recipe}
+use Rattle.recipe.specs.Reader as recipe
 use Rattle.recipe.specs.Reader.{recipe_of, judge_recipe, no_recipe, read_recipe}
 use Rattle.recipe.proofs.AcceptedRecord.{read_few}
 use Rattle.records.specs.Encoding.{recipe_bytes, recipe_from}
@@ -27,7 +30,7 @@ use Rattle.planner.specs.Call.{PlanCall, FixedCall}
 use Rattle.refusals.proofs.Verdicts.{refused_not}
 use Rattle.refusals.proofs.Rules.{part_refuses, part_accepts, decides}
 use Rattle.printout.specs.Text.{refusal_line, Put}
-use Rattle.walk.specs.Output.{below, CellRead, RecipeRead, Prepared, FixedPrepared}
+use Rattle.walk.specs.Output.{below, CellRead, RecipeRead, TellsOf, Prepared, FixedPrepared}
 
 -- a buffer of 8192 bytes holds the start of a file
 in_start : (n : ℕ) (start : List ℕ) → length start ≡ 8192 → take 8192 (take n start) ≡ take n start
@@ -43,27 +46,13 @@ recipe_start n start long is = (take n start, is ∙ ap read_recipe (sym (in_sta
 pub recipe_none : {reading : RecipeReading} → reading ≡ read_recipe [] → RecipeRead reading
 recipe_none is = ([], is)
 
--- what is handed over below the first line, and how many bytes that are
-pub none_below : {verdict : Verdict} → verdict ≡ Accepted → [] ≡ below verdict []
-unfolding below
-none_below is = ap (λ (v : Verdict). below v []) (sym is)
-
+-- what is handed over below the first line
 pub line_below : {verdict : Verdict} {refusal : Refusal} {line number end : ℕ} {entry exit : List ℕ}
     → verdict ≡ Refused refusal line → number ≡ number_of refusal
     → Put entry exit 0 (refusal_line number) end
     → take end exit ≡ below verdict []
 unfolding below
 line_below is numbered put = put.bytes_are ∙ ap refusal_line numbered ∙ ap (λ (v : Verdict). below v []) (sym is)
-
-pub none_handed : {verdict : Verdict} → verdict ≡ Accepted → 0 ≡ length (below verdict [])
-none_handed is = ap (λ (l : List ℕ). length l) (none_below is)
-
-pub line_handed : {verdict : Verdict} {refusal : Refusal} {line number end handed : ℕ} {entry exit : List ℕ}
-    → verdict ≡ Refused refusal line → number ≡ number_of refusal
-    → Put entry exit 0 (refusal_line number) end
-    → handed ≡ length (take end exit)
-    → handed ≡ length (below verdict [])
-line_handed is numbered put whole = whole ∙ ap (λ (l : List ℕ). length l) (line_below is numbered put)
 
 -- a reader's record has all of its fields, refused or not
 whole_read : (file : List ℕ) → WholeRecipe (read_recipe file).recipe
@@ -72,7 +61,7 @@ whole_read file = judge (judge_recipe file)
   where
     judge : (v : Verdict) → WholeRecipe (if_accepted v (recipe_of file) no_recipe)
     judge Accepted = record { point = refl; kind = refl; op = refl; takes = refl; gives = refl; then = refl; otherwise = refl }
-    judge (Refused refusal line) = record { point = refl; kind = refl; op = refl; takes = refl; gives = refl; then = refl; otherwise = refl }
+    judge (Err broken) = record { point = refl; kind = refl; op = refl; takes = refl; gives = refl; then = refl; otherwise = refl }
 
 pub few_lines : {reading : RecipeReading} → RecipeRead reading → reading.recipe.count ≤ 64
 few_lines read = subst (λ (x : RecipeReading). x.recipe.count ≤ 64) (sym read.1) (read_few (take 8192 read.0))
@@ -195,3 +184,37 @@ module _ (recipes table : List ℕ) (cell : CellReading) (recipe : RecipeReading
                   (subst (λ (rs : Chapters). FixedCall cell.cell rs entry scratch table) chapter fixed));
             };
       }
+
+-- and what is answered: the refusal of the cell, the recipe or the plan, or the cell
+module _ {recipes table : List ℕ} where
+  pub prepared_of : {answer : Result Cell Broken} → TellsOf answer (FixedPrepared recipes table) → TellsOf answer (Prepared recipes table)
+  prepared_of told = (told.0, told.1, told.2.prepared)
+
+  pub told_cell : {broken : Broken} → CellRead (cell.reading_of (Err broken)) → TellsOf (Err broken) (FixedPrepared recipes table)
+  unfolding cell.reading_of found_if first_refusal
+  told_cell {broken} read =
+      (record { verdict = Err broken; cell = no_cell }, refl, fixed_refused recipes table _ _ read (recipe_none refl) (Err broken) refl refl)
+
+  pub told_recipe : (found : Cell) {broken : Broken} → CellRead (cell.reading_of (Ok found)) → RecipeRead (recipe.reading_of (Err broken))
+      → TellsOf (Err broken) (FixedPrepared recipes table)
+  unfolding cell.reading_of recipe.reading_of found_if first_refusal
+  told_recipe found {broken} cell_read read =
+      (record { verdict = Err broken; cell = found }, refl, fixed_refused recipes table _ _ cell_read read (Err broken) refl refl)
+
+  pub told_plan : {found : Cell} (r : Recipe) (plan : Verdict) {entry scratch scratch' : List ℕ} (before : List ℕ)
+      → CellRead (cell.reading_of (Ok found)) → RecipeRead (recipe.reading_of (Ok r))
+      → length before ≡ 449
+      → recipes ≡ recipe_bytes r ++ drop 449 before
+      → length entry ≡ 8192
+      → length scratch * 8 ≡ 8192
+      → PlanCall found (chapters_from recipes) entry scratch table scratch' plan
+      → FixedCall found (chapters_from recipes) entry scratch table
+      → TellsOf (found_if plan found) (FixedPrepared recipes table)
+  unfolding cell.reading_of recipe.reading_of first_refusal
+  told_plan {found} r plan {entry} {scratch} {scratch'} before cell_read read long put places wide call fixed =
+      let kept = kept_recipe (recipe.reading_of (Ok r)) read before recipes long put in
+      let chapter = kept_chapter (recipe.reading_of (Ok r)) read before recipes long put in (
+        record { verdict = plan; cell = found },
+        refl,
+        fixed_planned recipes table _ _ cell_read read Accepted plan entry scratch scratch' refl refl places wide kept chapter call fixed,
+      )

@@ -2,7 +2,7 @@
 use mathlib.Core.Path.{◌≡◌, refl, sym, ap, subst, ◌∙◌}
 use mathlib.Core.Bool.{Bool, true, false, cond, true≢false}
 use mathlib.Core.List.{List, [], ◌++◌}
-use Prim.Native.Nat.{ℕ, ◌+◌, ◌-◌, ◌<◌, ◌≤◌}
+use Prim.Native.Nat.{ℕ, ◌+◌, ◌≤◌}
 use native.Mathlib.Omega.{arith}
 use lib.ListN.{length, take, length-append}
 use lib.Seq.{length-take-le}
@@ -13,15 +13,10 @@ use Rattle.cell.specs.declared.Cell.{Cell}
 use Rattle.recipe.specs.declared.Recipe.{Recipe}
 use Rattle.run.specs.declared.Run.{Run}
 use Rattle.run.specs.Calls.{fresh_run}
-use Rattle.printout.specs.declared.Answer.{Answer}
 use Rattle.walk.specs.declared.Step.{Step}
-use Rattle.printout.specs.Turn.{walked, printed, Answers}
+use Rattle.printout.specs.Turn.{walked, printed}
 use Rattle.walk.specs.Output.{Stepped, Followed, FollowedOn}
 use Rattle.printout.proofs.InputInParts.{walked_parts, printed_parts}
-
--- a prefix has as many bytes as it was cut to
-pub prefix_counts : (n : ℕ) (text : List ℕ) → n ≤ length text → n ≡ length (take n text)
-prefix_counts n text inside = sym (length-take-le n text inside)
 
 not_true_false : (b : Bool) → (b ≡ true → ⊥) → b ≡ false
 not_true_false true fails = absurd (fails refl)
@@ -44,52 +39,17 @@ module _ (c : Cell) (r : Recipe) (table : List ℕ) where
           failed_ends = λ failed. refl;
         })
 
-    module _
-        (got : ℕ) (inside : got ≤ length bytes) (answer : Answer) (answers : Answers c r table run (take got bytes) text answer)
-        (handed : ℕ) (whole : handed ≡ answer.length)
-      where
-        lines_handed : take handed text ≡ printed c r table run (take got bytes)
-        lines_handed = ap (λ (n : ℕ). take n text) whole ∙ answers.lines_are
-
-        -- an answer that could not be written
-        pub step_failed : Stepped c r table run bytes text (record { got = got; length = handed; failed = true; more = false; run = answer.run })
-        step_failed =
-            record {
-              bytes_inside = inside;
-              text_inside = omega (arith, whole, answers.inside);
-              text_is = lines_handed;
-              run_is = answers.run_is;
-              more_is = λ some (kept : true ≡ false). absurd (true≢false kept);
-              ended = λ none. refl;
-              failed_ends = λ failed. refl;
-            }
-
-        -- and one that was
-        pub step_written : (got ≡ 0 → ⊥)
-            → Stepped c r table run bytes text
-            (record { got = got; length = handed; failed = false; more = answer.more; run = answer.run })
-        step_written some =
-            record {
-              bytes_inside = inside;
-              text_inside = omega (arith, whole, answers.inside);
-              text_is = lines_handed;
-              run_is = answers.run_is;
-              more_is = λ here kept. answers.more_is;
-              ended = λ none. absurd (some none);
-              failed_ends = λ (failed : false ≡ true). absurd (true≢false (sym failed));
-            }
-
-  -- while reads are left
-  pub record Following (reads left : ℕ) (step : Step) : Type 0 where
+  -- after so many reads
+  pub record Following (done : ℕ) (step : Step) : Type 0 where
     pub input : List ℕ
     pub run_is : step.run ≡ (walked c r table fresh_run input).run
     pub goes_on : step.more ≡ true → (walked c r table fresh_run input).more ≡ true
     pub stops : step.more ≡ false → (step.got ≡ 0 → ⊥) → step.failed ≡ false → (walked c r table fresh_run input).more ≡ false
-    pub used : step.more ≡ true → reads ≤ left + length input
+    pub used : step.more ≡ true → done ≤ length input
 
-  pub following_none : (reads : ℕ) (run : Run) → run ≡ fresh_run → Following reads reads (record { got = 0; length = 0; failed = false; more = true; run = run })
+  pub following_none : (run : Run) → run ≡ fresh_run → Following 0 (record { got = 0; length = 0; failed = false; more = true; run = run })
   unfolding walked
-  following_none reads run fresh =
+  following_none run fresh =
       record {
         input = [];
         run_is = fresh;
@@ -98,8 +58,8 @@ module _ (c : Cell) (r : Recipe) (table : List ℕ) where
         used = λ on. omega arith;
       }
 
-  module _ (reads left : ℕ) (some : 0 < left) (before after : Step) (bytes text : List ℕ)
-      (F : Following reads left before) (on : before.more ≡ true)
+  module _ (done : ℕ) (before after : Step) (bytes text : List ℕ)
+      (F : Following done before) (on : before.more ≡ true)
       (S : Stepped c r table before.run bytes text after) where
     joined : walked c r table fresh_run (F.input ++ take after.got bytes) ≡ walked c r table before.run (take after.got bytes)
     joined =
@@ -119,7 +79,7 @@ module _ (c : Cell) (r : Recipe) (table : List ℕ) where
         ∙ (λ i. printed c r table fresh_run F.input ++ cond (F.goes_on on i) (printed c r table (sym F.run_is i) (take after.got bytes)) [])
         ∙ ap (λ (l : List ℕ). printed c r table fresh_run F.input ++ l) (sym S.text_is)
 
-    pub following_next : Following reads (left - 1) after
+    pub following_next : Following (done + 1) after
     following_next =
         record {
           input = F.input ++ take after.got bytes;
@@ -131,9 +91,9 @@ module _ (c : Cell) (r : Recipe) (table : List ℕ) where
               omega (arith, F.used on, length-append F.input (take after.got bytes), length-take-le after.got bytes S.bytes_inside);
         }
 
-  module _ (reads left : ℕ) (step : Step) (F : Following reads left step) where
-    pub followed_all : left ≡ 0 → Followed c r table reads step
-    followed_all none = record { input = F.input; run_is = F.run_is; goes_on = F.goes_on; stops = F.stops; used_up = λ more. omega (arith, F.used more) }
+  module _ (reads done : ℕ) (step : Step) (F : Following done step) where
+    pub followed_all : reads ≤ done → Followed c r table reads step
+    followed_all all = record { input = F.input; run_is = F.run_is; goes_on = F.goes_on; stops = F.stops; used_up = λ more. omega (arith, F.used more) }
 
     pub followed_over : step.more ≡ false → Followed c r table reads step
     followed_over over =
@@ -146,47 +106,47 @@ module _ (c : Cell) (r : Recipe) (table : List ℕ) where
         }
 
   -- the same of streams: what the reader had left and has left, and what the writer held and holds
-  pub record FollowingOn (reads left : ℕ) (step : Step) (had has held holds : Option (List ℕ)) : Type 0 where
-    pub following : Following reads left step
+  pub record FollowingOn (done : ℕ) (step : Step) (had has held holds : Option (List ℕ)) : Type 0 where
+    pub following : Following done step
     pub read : Consumes had has following.input
     pub lines : step.failed ≡ false → Appends held holds (printed c r table fresh_run following.input)
     pub unfailed : step.more ≡ true → step.failed ≡ false
 
-  pub following_on_none : (had held : Option (List ℕ)) (reads : ℕ) (run : Run) → run ≡ fresh_run
-      → FollowingOn reads reads (record { got = 0; length = 0; failed = false; more = true; run = run }) had had held held
+  pub following_on_none : (had held : Option (List ℕ)) (run : Run) → run ≡ fresh_run
+      → FollowingOn 0 (record { got = 0; length = 0; failed = false; more = true; run = run }) had had held held
   unfolding printed following_none
-  following_on_none had held reads run fresh =
+  following_on_none had held run fresh =
       record {
-        following = following_none reads run fresh;
+        following = following_none run fresh;
         read = Consumes-nil had;
         lines = λ written. Appends-nil held;
         unfailed = λ on. refl;
       }
 
   module _
-      (reads left : ℕ) (some : 0 < left) (before after : Step) (bytes text : List ℕ) (had has has' held holds holds' : Option (List ℕ))
-      (F : FollowingOn reads left before had has held holds) (on : before.more ≡ true)
+      (done : ℕ) (before after : Step) (bytes text : List ℕ) (had has has' held holds holds' : Option (List ℕ))
+      (F : FollowingOn done before had has held holds) (on : before.more ≡ true)
       (S : Stepped c r table before.run bytes text after)
       (read : Consumes has has' (take after.got bytes))
       (written : after.failed ≡ false → Appends holds holds' (take after.length text))
     where
-      pub following_on_next : FollowingOn reads (left - 1) after had has' held holds'
+      pub following_on_next : FollowingOn (done + 1) after had has' held holds'
       unfolding following_next
       following_on_next =
           record {
-            following = following_next reads left some before after bytes text F.following on S;
+            following = following_next done before after bytes text F.following on S;
             read = Consumes-trans had has has' F.following.input (take after.got bytes) F.read read;
             lines = λ kept.
-                subst (Appends held holds') (sym (handed_next reads left some before after bytes text F.following on S))
+                subst (Appends held holds') (sym (handed_next done before after bytes text F.following on S))
                 (Appends-trans held holds holds' _ _ (F.lines (F.unfailed on)) (written kept));
-            unfailed = kept reads left some before after bytes text F.following on S;
+            unfailed = kept done before after bytes text F.following on S;
           }
 
-  module _ (reads left : ℕ) (step : Step) (had has held holds : Option (List ℕ)) (F : FollowingOn reads left step had has held holds) where
-    pub followed_on_all : left ≡ 0 → FollowedOn c r table reads step had has held holds
+  module _ (reads done : ℕ) (step : Step) (had has held holds : Option (List ℕ)) (F : FollowingOn done step had has held holds) where
+    pub followed_on_all : reads ≤ done → FollowedOn c r table reads step had has held holds
     unfolding followed_all
-    followed_on_all none = record { followed = followed_all reads left step F.following none; read = F.read; lines = F.lines }
+    followed_on_all all = record { followed = followed_all reads done step F.following all; read = F.read; lines = F.lines }
 
     pub followed_on_over : step.more ≡ false → FollowedOn c r table reads step had has held holds
     unfolding followed_over
-    followed_on_over over = record { followed = followed_over reads left step F.following over; read = F.read; lines = F.lines }
+    followed_on_over over = record { followed = followed_over reads done step F.following over; read = F.read; lines = F.lines }

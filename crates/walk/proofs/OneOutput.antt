@@ -8,9 +8,8 @@ use lib.ListN.{length, take}
 use borrow.Author.Tests.{not-false}
 use Rattle.refusals.specs.Refusal.{number_of}
 use Rattle.refusals.specs.declared.Refusal.{Refusal}
-use Rattle.refusals.specs.declared.Verdict.{Verdict}
-use Rattle.refusals.specs.declared.Verdict.TheVariants.{Accepted, Refused}
-use Rattle.refusals.specs.Verdict.{first_refusal, if_accepted}
+use Rattle.std.specs.Prelude.{Err}
+use Rattle.refusals.specs.Verdict.{Verdict, Accepted, Refused, first_refusal, if_accepted}
 use Rattle.refusals.proofs.Verdicts.{no_line_accepts}
 use Rattle.refusals.proofs.Rules.{first_accepts, rest_accepts, right_accepts, decides}
 use Rattle.tables.specs.Numbers.{is_digit}
@@ -56,7 +55,7 @@ module _ (c : Cell) (rs : Chapters) (K : AllChecked c rs (sizes_in c rs)) (table
     where
       decide : (v : Verdict) → first_refusal (report_rules c rs table run outcome) ≡ v → Placed c rs (if_accepted v (next_run c rs table run outcome) run)
       decide Accepted passes = next_placed passes
-      decide (Refused refusal line) breaks = at
+      decide (Err broken) breaks = at
 
 -- and so does a byte of standard input
 told_placed : (c : Cell) (r : Recipe) → AllChecked c (r ∷ []) (sizes_in c (r ∷ [])) → (table : List ℕ) (run : Run) (byte : ℕ)
@@ -69,7 +68,7 @@ told_placed c r K table run byte at = decide (is_digit byte) (report_of c (r ∷
         (cond digit (reported c r (next_move c (r ∷ []) table run).entry run v (report_of c (r ∷ []) table run (byte - 48)).run) (record { line = []; more = false; run = run })).run
     decide false v = at
     decide true Accepted = report_placed c (r ∷ []) K table run (byte - 48) at
-    decide true (Refused refusal line) = report_placed c (r ∷ []) K table run (byte - 48) at
+    decide true (Err broken) = report_placed c (r ∷ []) K table run (byte - 48) at
 
 -- two tables with the same entries at every position have the same ones along a walk
 module _ (c : Cell) (r : Recipe) (K : AllChecked c (r ∷ []) (sizes_in c (r ∷ []))) (table table' : List ℕ)
@@ -99,7 +98,7 @@ module _ (c : Cell) (r : Recipe) (table table' : List ℕ) (v v' : Verdict) (mad
       decide Accepted is =
           same_verdict c rs made.table made.scratch table made.scratch' v made.call is
           other.table other.scratch table' other.scratch' v' other.call (sym same_check ∙ is) fixed other_fixed
-      decide (Refused refusal line) is =
+      decide (Err broken) is =
           (refused_kept c rs made.table made.scratch table made.scratch' made.call is).0
           ∙ sym (refused_kept c rs other.table other.scratch table' other.scratch' other.call (sym same_check ∙ is)).0
 
@@ -125,8 +124,8 @@ module _ (c : Cell) (r : Recipe) (table table' : List ℕ) (v v' : Verdict) (mad
       decide : (w : Verdict) → check_plan c rs (length made.table) (length made.scratch) ≡ w
           → below v (printed c r table fresh_run input) ≡ below v' (printed c r table' fresh_run input)
       decide Accepted is = λ i. below (same_decision i) (same_lines is input i)
-      decide (Refused refusal line) is =
-          let told : v ≡ Refused refusal line = (refused_kept c rs made.table made.scratch table made.scratch' made.call is).0 in
+      decide (Err broken) is =
+          let told : v ≡ Refused broken.rule broken.line = (refused_kept c rs made.table made.scratch table made.scratch' made.call is).0 in
           ap (λ (w : Verdict). below w (printed c r table fresh_run input)) told
           ∙ ap (λ (w : Verdict). below w (printed c r table' fresh_run input)) (sym told ∙ same_decision)
 
@@ -174,10 +173,10 @@ one_output cell_file recipe_file input text text' first second first_fixed secon
         → (w : Verdict)
         → (read_recipe (take 8192 recipe_file)).verdict ≡ w
         → below first.verdict (printed c r first.table fresh_run input) ≡ below second.verdict (printed c r second.table fresh_run input)
-    decide (Refused refusal line) is w told =
+    decide (Err broken) is w told =
         refused_below _ _ (cell_refused cell_file recipe_file _ _ first.decided is)
         ∙ sym (refused_below _ _ (cell_refused cell_file recipe_file _ _ second.decided is))
-    decide Accepted is (Refused refusal line) told =
+    decide Accepted is (Err broken) told =
         refused_below _ _ (recipe_refused cell_file recipe_file _ _ first.decided is told)
         ∙ sym (refused_below _ _ (recipe_refused cell_file recipe_file _ _ second.decided is told))
     decide Accepted is Accepted told =

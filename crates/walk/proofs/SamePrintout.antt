@@ -4,10 +4,9 @@ use mathlib.Core.Bool.{false, cond, not}
 use mathlib.Core.List.{List, [], ◌∷◌, ◌++◌}
 use Prim.Native.Nat.{ℕ, ◌-◌}
 use lib.ListN.{length}
-use Rattle.refusals.specs.declared.Verdict.{Verdict}
-use Rattle.refusals.specs.declared.Verdict.TheVariants.{Accepted, Refused}
+use Rattle.std.specs.Prelude.{Err}
+use Rattle.refusals.specs.Verdict.{Verdict, Accepted, first_refusal, no_line, if_accepted}
 use Rattle.refusals.specs.declared.Refusal.TheVariants.{NotOpen}
-use Rattle.refusals.specs.Verdict.{first_refusal, no_line, if_accepted}
 use Rattle.refusals.proofs.Verdicts.{refused_not}
 use Rattle.tables.specs.Numbers.{is_digit}
 use Rattle.cell.specs.declared.Cell.{Cell}
@@ -68,5 +67,5 @@ call_length {c} {rs} {lent} {scratch} {planned} call = go (check_plan c rs (leng
   where
     go : (v : Verdict) → check_plan c rs (length lent) (length scratch) ≡ v → length planned ≡ length lent
     go Accepted is = (call.planned is).same_length
-    go (Refused refusal line) is =
+    go (Err broken) is =
         ap (λ (l : List ℕ). length l) (call.untouched (refused_not is)).0

@@ -1,23 +1,22 @@
 -- "`walk` reads the first 8192 bytes of `cell.csv` and then, unless that is refused, of `recipe.csv` .. and digits from
 -- standard input": what it reads, decides and prints. Assumes nothing.
-use Rattle.std.specs.Prelude.{◌≡◌, true, false, List, [], ◌∷◌, ◌++◌, ℕ, ◌*◌, ◌≤◌, length, take}
+use Rattle.std.specs.Prelude.{◌≡◌, Result, true, false, List, [], ◌∷◌, ◌++◌, ℕ, ◌*◌, ◌≤◌, length, take}
 use Rattle.std.specs.declared.option.Option.{Option}
 use Rattle.std.specs.Io.KnownBytes.{Appends, Consumes}
+use Rattle.refusals.specs.declared.Broken.{Broken}
 use Rattle.refusals.specs.Refusal.{number_of}
-use Rattle.refusals.specs.declared.Verdict.{Verdict}
-use Rattle.refusals.specs.declared.Verdict.TheVariants.{Accepted, Refused}
-use Rattle.refusals.specs.Verdict.{first_refusal}
+use Rattle.std.specs.Prelude.{Err}
+use Rattle.refusals.specs.Verdict.{Verdict, Accepted, first_refusal, found_if}
 use Rattle.cell.specs.declared.Cell.{Cell}
-use Rattle.cell.specs.declared.CellReading.{CellReading}
+use Rattle.cell.specs.Reader.{CellReading}
 use Rattle.cell.specs.Reader.{read_cell}
 use Rattle.recipe.specs.declared.Recipe.{Recipe}
-use Rattle.recipe.specs.declared.RecipeReading.{RecipeReading}
+use Rattle.recipe.specs.Reader.{RecipeReading}
 use Rattle.recipe.specs.Reader.{read_recipe}
 use Rattle.records.specs.Encoding.{recipe_from}
 use Rattle.run.specs.declared.Run.{Run}
 use Rattle.run.specs.Calls.{fresh_run}
 use Rattle.planner.specs.Call.{PlanCall, FixedCall}
-use Rattle.walk.specs.declared.Ready.{Ready}
 use Rattle.walk.specs.declared.Step.{Step}
 use Rattle.printout.specs.Text.{refusal_line}
 use Rattle.printout.specs.Turn.{walked, printed}
@@ -31,7 +30,7 @@ names_line =
 -- files and the plan, if these are the lines of the moves
 unfoldable pub below : Verdict → List ℕ → List ℕ
 below Accepted lines = lines
-below (Refused refusal line) lines = refusal_line (number_of refusal)
+below (Err broken) lines = refusal_line (number_of broken.rule)
 
 -- "the first 8192 bytes of `cell.csv`": the record of some file
 abbrev pub CellRead : CellReading → Type 0
@@ -68,6 +67,15 @@ pub record FixedDecided (cell_file recipe_file table : List ℕ) (verdict : Verd
       → (recipe_passes : (read_recipe (take 8192 recipe_file)).verdict ≡ Accepted)
       → FixedCall (read_cell (take 8192 cell_file)).cell ((read_recipe (take 8192 recipe_file)).recipe ∷ [])
       (decided.planned cell_passes recipe_passes).table (decided.planned cell_passes recipe_passes).scratch table
+
+-- what the files and the plan come to
+pub record Ready : Type 0 where
+  pub verdict : Verdict
+  pub cell : Cell
+
+-- an answer tells of it: the cell, or the refusal
+abbrev pub TellsOf : Result Cell Broken → (Ready → Type 0) → Type 0
+TellsOf answer Holds = (ready : Ready) × (answer ≡ found_if ready.verdict ready.cell) × Holds ready
 
 -- what the program has when it begins to follow: the verdict, and the records and the table of two files; the recipe's record as bytes
 pub record Prepared (recipes table : List ℕ) (ready : Ready) : Type 0 where

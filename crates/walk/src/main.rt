@@ -2,17 +2,17 @@
 // by the outcomes that standard input gives.
 #![tactic(auto)]
 
-ghost use Rattle.std.specs.Prelude.{◌≡◌, false, [], ◌∷◌, ◌*◌, ◌≤◌, length, take, IsTrue};
+ghost use Rattle.std.specs.Prelude.{◌≡◌, false, Err, [], ◌*◌, ◌≤◌, length, take, IsOk};
 ghost use Rattle.std.specs.Io.KnownBytes.{Appends, Consumes};
-ghost use Rattle.refusals.specs.Verdict.{first_refusal};
-ghost use Rattle.recipe.specs.Reader.{read_recipe};
+ghost use Rattle.cell.specs.Reader.{reading_of};
+ghost use Rattle.recipe.specs.Reader as recipe;
 ghost use Rattle.records.specs.Encoding.{recipe_from};
 ghost use Rattle.walk.specs.Counts.{IsPrefixLen};
-ghost use Rattle.walk.specs.Output.{below, CellRead, RecipeRead, Prepared, FixedPrepared, Stepped, Followed, FollowedOn, Walk};
+ghost use Rattle.walk.specs.Output.{below, CellRead, RecipeRead, TellsOf, Prepared, FixedPrepared, Stepped, Followed, FollowedOn, Walk};
 
-use cell::{Cell, CellReading};
-use recipe::RecipeReading;
-use refusals::Verdict;
+use cell::Cell;
+use recipe::Recipe;
+use refusals::Broken;
 use run::Run;
 use std::io::{Read, Write};
 use std::rt::Files;
@@ -47,23 +47,14 @@ impl<E: Eprint> fmt::Write for Words<'_, E> {
     }
 }
 
-// How many bytes were handed to standard output, and whether writing them failed.
+// Standard output took no more, and it was said why.
 #[derive(Clone, Copy)]
-pub struct Printed {
-    pub length: usize,
-    pub failed: bool,
-}
-
-// What the files and the plan come to.
-#[derive(Clone, Copy)]
-pub struct Ready {
-    pub verdict: Verdict,
-    pub cell: Cell,
-}
+pub struct Unwritten;
 
 // What one read of standard input comes to: how many bytes it gave, how many bytes of text were
 // handed over for them, whether writing these failed, whether the walk goes on, and the run
-// afterwards.
+// afterwards. The flags stand beside the rest since Stepped and FollowedOn say of a text that could not
+// be written, too, what was read and what was handed over for it.
 #[derive(Clone, Copy)]
 pub struct Step {
     pub got: usize,
@@ -85,41 +76,27 @@ fn say_why<E: Eprint>(errors: &E, error: io::Error) {
 }
 
 // Hands a text to standard output; where writing fails it says why.
-fn print<O: Write, E: Eprint>(printer: &mut Printer<O, E>, text: &[u8]) -> Printed
-    ensures length { result.length ≡ length text.now }
-    ensures written { result.failed ≡ false
-        → Appends (O.contents printer.old.output) (O.contents printer.new.output) text.now }
+fn print<O: Write, E: Eprint>(printer: &mut Printer<O, E>, text: &[u8]) -> Result<(), Unwritten>
+    ensures { IsOk result → Appends (O.contents printer.old.output) (O.contents printer.new.output) text.now }
 {
-    let length = text.len();
     match printer.output.write_all(text) {
-        Ok(()) => Printed {
-            length,
-            failed: false,
-        },
+        Ok(()) => Ok(()),
         Err(error) => {
             say_why(&printer.errors, error);
-            Printed {
-                length,
-                failed: true,
-            }
+            Err(Unwritten)
         }
     }
 }
 
-// Prints the line of a verdict that refuses.
-fn print_refusal<O: Write, E: Eprint>(printer: &mut Printer<O, E>, verdict: Verdict) -> Printed
-    ensures length { result.length ≡ length (below verdict []) }
-    ensures written { result.failed ≡ false
-        → Appends (O.contents printer.old.output) (O.contents printer.new.output) (below verdict []) }
+// Prints the line of a refusal.
+fn print_refusal<O: Write, E: Eprint>(
+    printer: &mut Printer<O, E>,
+    broken: Broken,
+) -> Result<(), Unwritten>
+    ensures { IsOk result → Appends (O.contents printer.old.output) (O.contents printer.new.output) (below (Err broken) []) }
 {
-    let Verdict::Refused(refusal, _) = verdict else {
-        return Printed {
-            length: 0,
-            failed: false,
-        };
-    };
     let mut line = [0u8; 64];
-    let length = printout::text::put_refusal(&mut line, 0, refusals::number(refusal));
+    let length = printout::text::put_refusal(&mut line, 0, refusals::number(broken.rule));
     print(printer, &line[..length])
 }
 
@@ -128,10 +105,7 @@ fn read_some<I: Read>(input: &mut I, bytes: &mut [u8]) -> usize
     ensures inside { IsPrefixLen result bytes.new }
     ensures read { Consumes (I.remaining input.old) (I.remaining input.new) (take result bytes.new) }
 {
-    match input.read(bytes) {
-        Ok(got) => got,
-        Err(_) => 0,
-    }
+    input.read(bytes).unwrap_or(0)
 }
 
 // Reads until the buffer is full or a read gives nothing, and answers how many bytes stand at its
@@ -141,6 +115,7 @@ fn read_full<I: Read>(input: &mut I, start: &mut [u8]) -> usize
     ensures read { Consumes (I.remaining input.old) (I.remaining input.new) (take result start.new) }
 {
     let mut done = 0;
+    // No count: each read says how far it came.
     while done < start.len() {
         let got = read_some(input, &mut start[done..]);
         if got == 0 {
@@ -163,60 +138,37 @@ fn read_start<F: Files>(files: &F, path: &str, start: &mut [u8]) -> usize
 }
 
 // The cell of the working directory.
-fn read_cell<F: Files>(files: &F) -> CellReading
-    ensures { CellRead result }
+fn read_cell<F: Files>(files: &F) -> Result<Cell, Broken>
+    ensures { CellRead (reading_of result) }
 {
     let mut start = [0u8; 8192];
     let length = read_start(files, "cell.csv", &mut start);
     cell::read_cell(&start[..length])
 }
 
-// The recipe of the working directory, which is not read if the cell is refused: then it counts as
-// empty.
-fn read_recipe<F: Files>(files: &F, cell: Verdict) -> RecipeReading
-    ensures read { RecipeRead result }
-    ensures unread { (cell ≡ Verdict.Accepted → ⊥) → result ≡ read_recipe [] }
+// The recipe of the working directory.
+fn read_recipe<F: Files>(files: &F) -> Result<Recipe, Broken>
+    ensures { RecipeRead (recipe.reading_of result) }
 {
-    let Verdict::Accepted = cell else {
-        return recipe::read_recipe(b"");
-    };
     let mut start = [0u8; 8192];
     let length = read_start(files, "recipe.csv", &mut start);
     recipe::read_recipe(&start[..length])
 }
 
-// The first of two verdicts that refuses.
-fn first_refusal(first: Verdict, second: Verdict) -> Verdict
-    ensures { result ≡ first_refusal (first ∷ second ∷ []) }
-{
-    let Verdict::Accepted = first else {
-        return first;
-    };
-    second
-}
-
-// Reads the cell and the recipe, of which it keeps the record's bytes, and plans with 8192 places: a
-// scratch of 1024 bytes has as many.
-fn prepare<F: Files>(files: &F, recipes: &mut [u8], table: &mut [u32]) -> Ready
+// Reads the cell and, unless that is refused, the recipe, of which it keeps the record's bytes, and plans
+// with 8192 places: a scratch of 1024 bytes has as many.
+fn prepare<F: Files>(files: &F, recipes: &mut [u8], table: &mut [u32]) -> Result<Cell, Broken>
     requires recipes_len { length recipes.old ≡ 449 }
     requires table_len { length table.old ≡ 8192 }
-    ensures prepared { Prepared recipes.new table.new result }
-    ensures fixed { FixedPrepared recipes.new table.new result }
+    ensures prepared { TellsOf result (Prepared recipes.new table.new) }
+    ensures fixed { TellsOf result (FixedPrepared recipes.new table.new) }
 {
-    let reading = read_cell(files);
-    let first = reading.verdict;
-    let cell = reading.cell;
-    let reading = read_recipe(files, first);
-    let second = reading.verdict;
-    let recipe = reading.recipe;
-    let verdict = first_refusal(first, second);
-    let Verdict::Accepted = verdict else {
-        return Ready { verdict, cell };
-    };
+    let cell = read_cell(files)?;
+    let recipe = read_recipe(files)?;
     records::put_recipe(recipe, recipes);
     let mut scratch = [0u8; 1024];
-    let verdict = planner::plan(cell, recipes, table, &mut scratch);
-    Ready { verdict, cell }
+    planner::plan(cell, recipes, table, &mut scratch)?;
+    Ok(cell)
 }
 
 // Takes what one read gives and prints its answer, before more is waited for. A text that cannot be
@@ -249,29 +201,18 @@ fn take_some<I: Read, O: Write, E: Eprint>(
         };
     }
     let answer = printout::turn::answers(cell, recipes, table, run, &bytes[..got], text);
-    let length = answer.length;
-    let next = answer.run;
-    let printed = print(printer, &text[..length]);
-    if printed.failed {
-        return Step {
-            got,
-            length: printed.length,
-            failed: true,
-            more: false,
-            run: next,
-        };
-    }
+    let failed = print(printer, &text[..answer.length]).is_err();
     Step {
         got,
-        length: printed.length,
-        failed: false,
-        more: answer.more,
-        run: next,
+        length: answer.length,
+        failed,
+        more: answer.more && !failed,
+        run: answer.run,
     }
 }
 
 // Follows a table from a fresh run. A proved loop has to end, and nothing says that standard input
-// does; so the reads are counted down.
+// does; so the reads are counted.
 fn follow<I: Read, O: Write, E: Eprint>(
     input: &mut I,
     printer: &mut Printer<O, E>,
@@ -296,41 +237,37 @@ fn follow<I: Read, O: Write, E: Eprint>(
         more: true,
         run: Run::fresh(),
     };
-    let mut left = reads;
-    while left > 0 && step.more {
+    for _ in 0..reads {
         step = take_some(
             input, printer, cell, recipes, table, step.run, &mut bytes, &mut text,
         );
-        left -= 1;
+        if !step.more {
+            return step;
+        }
     }
     step
 }
 
-// Prints the names, and below them the refusal or the lines of the moves. Answers whether all of it
-// was written.
+// Prints the names, and below them the refusal or the lines of the moves.
 fn plan_and_follow<F: Files, I: Read, O: Write, E: Eprint>(
     files: &F,
     input: &mut I,
     printer: &mut Printer<O, E>,
-) -> bool
-    ensures { IsTrue result → Walk (I.remaining input.old) (I.remaining input.new)
+) -> Result<(), Unwritten>
+    ensures { IsOk result → Walk (I.remaining input.old) (I.remaining input.new)
         (O.contents printer.old.output) (O.contents printer.new.output) }
 {
-    let names = print(printer, b"position,entry,next\n");
-    if names.failed {
-        return false;
-    }
+    print(printer, b"position,entry,next\n")?;
     let mut recipes = [0u8; 449];
     let mut table = [0u32; 8192];
-    let ready = prepare(files, &mut recipes, &mut table);
-    let verdict = ready.verdict;
-    let Verdict::Accepted = verdict else {
-        let line = print_refusal(printer, verdict);
-        return !line.failed;
-    };
-    // No walk uses up so many reads.
-    let last = follow(input, printer, ready.cell, &recipes, &table, u64::MAX);
-    !last.failed
+    match prepare(files, &mut recipes, &mut table) {
+        Ok(cell) => {
+            // No walk uses up so many reads.
+            let last = follow(input, printer, cell, &recipes, &table, u64::MAX);
+            if last.failed { Err(Unwritten) } else { Ok(()) }
+        }
+        Err(broken) => print_refusal(printer, broken),
+    }
 }
 
 fn main(rt: HostRuntime) {
@@ -338,5 +275,6 @@ fn main(rt: HostRuntime) {
         output: rt.stdout(),
         errors: rt.stderr(),
     };
-    plan_and_follow(&rt, &mut rt.stdin(), &mut printer);
+    // What could not be written was said already.
+    let _ = plan_and_follow(&rt, &mut rt.stdin(), &mut printer);
 }

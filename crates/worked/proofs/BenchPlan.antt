@@ -8,9 +8,8 @@ use native.Mathlib.Omega.{arith}
 use lib.ListN.{length, get_or}
 use lib.Dec.{eqb, ltb}
 use borrow.Author.Tests.{eq-eqb, eqb-true, ltb-true}
-use Rattle.refusals.specs.declared.Verdict.TheVariants.{Accepted}
+use Rattle.refusals.specs.Verdict.{Accepted, first_refusal, first_line, no_line, rule3, line_verdict}
 use Rattle.refusals.specs.Search.{first_below, any_below, all_below, count_below, greatest_below, tabulate, is_of}
-use Rattle.refusals.specs.Verdict.{first_refusal, first_line, no_line, rule3, line_verdict}
 use Rattle.refusals.proofs.EveryBelow.{all_at}
 use Rattle.cell.specs.declared.Cell.{Cell}
 use Rattle.chapters.specs.Joined.{Chapters, chapter_at, Point, point_in, first_point, kind_at, is_earlier, landing, then_at, else_at}

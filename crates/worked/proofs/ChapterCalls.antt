@@ -9,9 +9,7 @@ use lib.ListN.{length}
 use lib.Dec.{eqb, ltb}
 use borrow.Author.Tests.{eqb-false, lt-ltb, le-ltb}
 use Rattle.refusals.specs.declared.Refusal.TheVariants.{TooShort, NotRealisable, RunRange, OutcomeRange, NotOpen, AtEnd}
-use Rattle.refusals.specs.declared.Verdict.{Verdict}
-use Rattle.refusals.specs.declared.Verdict.TheVariants.{Accepted, Refused}
-use Rattle.refusals.specs.Verdict.{first_refusal, if_accepted}
+use Rattle.refusals.specs.Verdict.{Verdict, Accepted, Refused, first_refusal, if_accepted}
 use Rattle.refusals.proofs.Rules.{accepts, decides, part_accepts}
 use Rattle.refusals.proofs.Verdicts.{no_line_broken, no_line_kept}
 use Rattle.positions.specs.declared.Configuration.{Configuration}

@@ -6,9 +6,8 @@ use native.Mathlib.Omega.{arith}
 use lib.ListN.{length}
 use borrow.Author.Tests.{le-ltb}
 use Rattle.refusals.specs.declared.Refusal.TheVariants.{TooShort}
-use Rattle.refusals.specs.declared.Verdict.TheVariants.{Accepted}
+use Rattle.refusals.specs.Verdict.{Accepted, first_refusal}
 use Rattle.refusals.specs.Search.{greatest_below}
-use Rattle.refusals.specs.Verdict.{first_refusal}
 use Rattle.refusals.proofs.Verdicts.{no_line_kept}
 use Rattle.refusals.proofs.Rules.{accepts, decides, part_accepts}
 use Rattle.cell.specs.declared.Cell.{Cell}

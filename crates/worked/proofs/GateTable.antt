@@ -5,8 +5,7 @@ use mathlib.Core.List.{List, [], ◌∷◌}
 use Prim.Native.Nat.{ℕ, ◌≤◌}
 use lib.ListN.{length}
 use Rattle.refusals.specs.declared.Refusal.TheVariants.{NotRealisable}
-use Rattle.refusals.specs.declared.Verdict.{Verdict}
-use Rattle.refusals.specs.declared.Verdict.TheVariants.{Accepted, Refused}
+use Rattle.refusals.specs.Verdict.{Verdict, Accepted, Refused}
 use Rattle.planner.specs.Call.{PlanCall}
 use Rattle.worked.specs.Moves.{bench_cell, bench_recipe}
 use Rattle.worked.specs.Gated.{gate_cell, again_cell, again_recipe}

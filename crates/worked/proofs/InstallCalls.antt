@@ -9,7 +9,7 @@ use lib.Seq.{take-nil}
 use borrow.Author.Tests.{ltb-true}
 use Rattle.refusals.specs.declared.Refusal.{Refusal}
 use Rattle.refusals.specs.declared.Refusal.TheVariants.{TooShort, FullCell}
-use Rattle.refusals.specs.declared.Verdict.TheVariants.{Accepted, Refused}
+use Rattle.refusals.specs.Verdict.{Accepted, Refused}
 use Rattle.refusals.proofs.Verdicts.{refused_not}
 use Rattle.cell.specs.declared.Cell.{Cell}
 use Rattle.cell.specs.declared.OperationLine.{OperationLine}
@@ -19,9 +19,8 @@ use Rattle.positions.specs.Rules.{check_sizes}
 use Rattle.simulation.specs.Simulation.{Realisable}
 use Rattle.reached.specs.Reached.{rule22}
 use Rattle.planner.specs.Call.{check_plan}
-use Rattle.install.specs.declared.Listing.{Listing}
 use Rattle.install.specs.Order.{line_bytes, bytes_of, filled_with}
-use Rattle.install.specs.Call.{check_install, Listed, InstallCall}
+use Rattle.install.specs.Call.{Listing, check_install, Listed, InstallCall}
 use Rattle.install.proofs.FilledList.{filled_none}
 use Rattle.install.proofs.InstallAnswers.{plan_refused, full_refused, free_accepted}
 use Rattle.install.proofs.OneList.{listed_once}

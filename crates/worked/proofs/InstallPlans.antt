@@ -7,9 +7,8 @@ use mathlib.Core.List.{[], ◌∷◌}
 use native.Mathlib.Omega.{arith}
 use lib.ListN.{length}
 use Rattle.refusals.proofs.Verdicts.{or_cases}
-use Rattle.refusals.specs.declared.Verdict.TheVariants.{Accepted}
+use Rattle.refusals.specs.Verdict.{Accepted, first_refusal, first_line, no_line, rule3, line_verdict}
 use Rattle.refusals.specs.Search.{first_below, any_below, all_below, count_below, greatest_below, tabulate, is_of, every}
-use Rattle.refusals.specs.Verdict.{first_refusal, first_line, no_line, rule3, line_verdict}
 use Rattle.cell.specs.Rules as cell
 use Rattle.cell.specs.declared.OperationLine.{OperationLine}
 use Rattle.cell.specs.Longer.{with_line, with_lines}

@@ -5,15 +5,14 @@ use mathlib.Core.List.{List, [], ◌∷◌}
 use Prim.Native.Nat.{ℕ, ◌+◌, ◌/◌, ◌≤◌}
 use lib.ListN.{length, drop}
 use Rattle.refusals.specs.declared.Refusal.TheVariants.{FullCell}
-use Rattle.refusals.specs.declared.Verdict.TheVariants.{Accepted}
+use Rattle.refusals.specs.Verdict.{Accepted}
 use Rattle.cell.specs.declared.Cell.{Cell}
 use Rattle.recipe.specs.declared.Recipe.{Recipe}
 use Rattle.positions.specs.Sizes.{sizes_of}
 use Rattle.positions.specs.Rules.{check_sizes}
 use Rattle.simulation.specs.Simulation.{Realisable}
 use Rattle.reached.specs.Reached.{rule22}
-use Rattle.install.specs.declared.Listing.{Listing}
-use Rattle.install.specs.Call.{InstallCall}
+use Rattle.install.specs.Call.{Listing, InstallCall}
 use Rattle.worked.specs.Moves.{bench_cell, bench_recipe}
 use Rattle.worked.specs.Installed.{untested_cell, unfed_cell, testing_lines, feeding_lines, turned_cell, turned_recipe, turning_lines}
 use Rattle.worked.specs.Installed.{single_cell, single_recipe, single_lines, full_cell}

@@ -8,7 +8,7 @@ use Prim.Native.Nat.{ℕ, ◌+◌}
 use lib.ListN.{length, get_or}
 use lib.Dec.{eqb, ltb, leb}
 use borrow.Author.Tests.{eqb-true, eqb-false, ltb-true, leb-true}
-use Rattle.refusals.specs.declared.Verdict.TheVariants.{Accepted}
+use Rattle.refusals.specs.Verdict.{Accepted}
 use Rattle.refusals.specs.Search.{all_below, every}
 use Rattle.refusals.proofs.EveryBelow.{all_at, any_some}
 use Rattle.refusals.proofs.Verdicts.{and_left, and_right, or_cases}

@@ -7,10 +7,8 @@ use Prim.Native.Nat.{ℕ}
 use lib.ListN.{length}
 use Rattle.refusals.specs.declared.Refusal.{Refusal}
 use Rattle.refusals.specs.declared.Refusal.TheVariants.{UnreachedPoint, Chapters}
-use Rattle.refusals.specs.declared.Verdict.{Verdict}
-use Rattle.refusals.specs.declared.Verdict.TheVariants.{Refused}
+use Rattle.refusals.specs.Verdict.{Verdict, Refused, first_refusal, first_line, no_line, if_accepted, rule3, line_verdict}
 use Rattle.refusals.specs.Search.{first_below, any_below, all_below, count_below, greatest_below, tabulate, is_of}
-use Rattle.refusals.specs.Verdict.{first_refusal, first_line, no_line, if_accepted, rule3, line_verdict}
 use Rattle.refusals.proofs.Rules.{part_refuses}
 use Rattle.cell.specs.declared.Cell.{Cell}
 use Rattle.cell.specs.Rules as cell

@@ -29,8 +29,7 @@ use Rattle.simulation.proofs.ClosedTableTest.{rank_of, has_entry, leads_on, clos
 use Rattle.simulation.proofs.StageTest.{stage_of, no_more, lower, keeps_stage, stays_staged, moves_staged, position_staged, are_stages}
 use Rattle.install.specs.Candidates.{is_operation, is_there, is_in_cell, has_state, names_at, is_named, is_candidate, Mends}
 use Rattle.install.specs.Order.{same_line, is_among, comes_before, is_first, rises}
-use Rattle.install.specs.Call.{Listed}
-use Rattle.install.specs.declared.Listing.{Listing}
+use Rattle.install.specs.Call.{Listing, Listed}
 use Rattle.install.specs.Call.{InstallCall}
 use Rattle.worked.specs.Moves.{filled}
 use Rattle.worked.specs.Installed.{line, single_recipe}

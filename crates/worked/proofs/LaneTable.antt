@@ -5,11 +5,9 @@ use mathlib.Core.List.{List, [], ◌∷◌}
 use Prim.Native.Nat.{ℕ, ◌≤◌}
 use lib.ListN.{length, get_or}
 use Rattle.refusals.specs.declared.Refusal.TheVariants.{NotRealisable}
-use Rattle.refusals.specs.declared.Verdict.{Verdict}
-use Rattle.refusals.specs.declared.Verdict.TheVariants.{Accepted, Refused}
+use Rattle.refusals.specs.Verdict.{Verdict, Accepted, Refused}
 use Rattle.planner.specs.Call.{PlanCall}
-use Rattle.install.specs.declared.Listing.{Listing}
-use Rattle.install.specs.Call.{InstallCall}
+use Rattle.install.specs.Call.{Listing, InstallCall}
 use Rattle.worked.specs.Moves.{bench_cell, bench_recipe}
 use Rattle.worked.specs.Installed.{single_recipe}
 use Rattle.worked.specs.Laned.{pallet_cell, pallet_lines}

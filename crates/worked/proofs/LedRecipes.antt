@@ -1,9 +1,8 @@
 -- The recipes of the other examples pass rule 22: computed. Assumes nothing.
 use mathlib.Core.Path.{◌≡◌, refl}
 use Prim.Native.Nat.{ℕ}
-use Rattle.refusals.specs.declared.Verdict.TheVariants.{Accepted}
+use Rattle.refusals.specs.Verdict.{Accepted, no_line}
 use Rattle.refusals.specs.Search.{any_below, count_below, tabulate, is_of}
-use Rattle.refusals.specs.Verdict.{no_line}
 use Rattle.recipe.specs.Rules.{point_count}
 use Rattle.reached.specs.Reached.{leads, line_leads, leads_on, chained, is_reached, rule22}
 use Rattle.worked.specs.Moves.{filled, bench_recipe, limit_recipe}

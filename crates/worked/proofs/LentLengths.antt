@@ -7,10 +7,8 @@ use lib.ListN.{length}
 use lib.Dec.{ltb}
 use borrow.Author.Tests.{lt-ltb, le-ltb}
 use Rattle.refusals.specs.declared.Refusal.TheVariants.{TooShort, NotRealisable}
-use Rattle.refusals.specs.declared.Verdict.{Verdict}
-use Rattle.refusals.specs.declared.Verdict.TheVariants.{Accepted, Refused}
+use Rattle.refusals.specs.Verdict.{Verdict, Accepted, Refused, no_line}
 use Rattle.refusals.proofs.Verdicts.{no_line_broken, no_line_kept}
-use Rattle.refusals.specs.Verdict.{no_line}
 use Rattle.refusals.proofs.Rules.{accepts, decides, part_accepts}
 use Rattle.cell.specs.declared.Cell.{Cell}
 use Rattle.recipe.specs.declared.Recipe.{Recipe}

@@ -1,9 +1,8 @@
 -- "R 3, four states each, P 5, N 16 reaches 1048576; a fifth state in one gives 13": computed. Assumes nothing.
 use mathlib.Core.Path.{◌≡◌, refl}
-use Rattle.refusals.specs.declared.Verdict.TheVariants.{Accepted, Refused}
+use Rattle.refusals.specs.Verdict.{Accepted, Refused, first_refusal, first_line, no_line, rule3, line_verdict}
 use Rattle.refusals.specs.declared.Refusal.TheVariants.{TooManyPositions}
 use Rattle.refusals.specs.Search.{first_below, any_below, count_below, greatest_below, tabulate, is_of}
-use Rattle.refusals.specs.Verdict.{first_refusal, first_line, no_line, rule3, line_verdict}
 use Rattle.cell.specs.Rules as cell
 use Rattle.recipe.specs.Rules as recipe
 use Rattle.positions.specs.Radix.{product_below}

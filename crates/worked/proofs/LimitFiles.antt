@@ -4,14 +4,13 @@ use mathlib.Core.List.{List, [], ◌++◌}
 use Prim.Native.Nat.{ℕ}
 use Rattle.refusals.specs.declared.Refusal.{Refusal}
 use Rattle.refusals.specs.declared.Refusal.TheVariants.{LineCount, Range, NoPartner, LimitResource}
-use Rattle.refusals.specs.declared.Verdict.TheVariants.{Accepted, Refused}
+use Rattle.refusals.specs.Verdict.{Accepted, Refused, first_refusal, first_line, no_line, if_accepted, rule3, line_verdict}
 use Rattle.refusals.specs.Search.{first_below, any_below, count_below, greatest_below, tabulate, is_of, every}
-use Rattle.refusals.specs.Verdict.{first_refusal, first_line, no_line, if_accepted, rule3, line_verdict}
 use Rattle.tables.specs.Lines.{lengthened, parted, lines, value_lines, shown_line, extent}
 use Rattle.tables.specs.Numbers.{is_digit, is_number, decimal, is_row}
 use Rattle.tables.specs.Table.{starts, rule1, first_broken, is_broken, rule2, number_at, column}
 use Rattle.cell.specs.declared.Cell.{Cell}
-use Rattle.cell.specs.declared.CellReading.{CellReading}
+use Rattle.cell.specs.Reader.{CellReading}
 use Rattle.cell.specs.Rules as cell
 use Rattle.cell.specs.Reader.{cell_names, cell_of, judge_cell, read_cell}
 use Rattle.recipe.specs.Rules as recipe

@@ -1,9 +1,8 @@
 -- Rules 4 and 20 on the limits of a record, and their places among the others: computed over records of one line. Assumes nothing.
 use mathlib.Core.Path.{◌≡◌, refl}
-use Rattle.refusals.specs.declared.Verdict.TheVariants.{Accepted, Refused}
+use Rattle.refusals.specs.Verdict.{Accepted, Refused, first_refusal, first_line, no_line, rule3, line_verdict}
 use Rattle.refusals.specs.declared.Refusal.TheVariants.{Range, ResourceGap, NoPartner, LimitResource}
 use Rattle.refusals.specs.Search.{first_below, any_below, greatest_below, is_of}
-use Rattle.refusals.specs.Verdict.{first_refusal, first_line, no_line, rule3, line_verdict}
 use Rattle.cell.specs.Rules.{in_range, leaves_range, rule4, limit_in_range, limit_leaves_range, rule4_limits, greatest_resource, has_no_line, gap, rule5}
 use Rattle.cell.specs.Rules.{other_act, partner, unpaired, rule6, limits_absent, rule20, alike, stray, rule23, cell_rules, check_cell}
 use Rattle.worked.specs.Moves.{filled}

@@ -10,9 +10,8 @@ use lib.Dec.{ltb}
 use borrow.Author.Tests.{le-ltb}
 use Rattle.refusals.specs.declared.Refusal.{Refusal}
 use Rattle.refusals.specs.declared.Refusal.TheVariants.{RunRange}
-use Rattle.refusals.specs.declared.Verdict.{Verdict}
-use Rattle.refusals.specs.declared.Verdict.TheVariants.{Accepted, Refused}
-use Rattle.refusals.specs.Verdict.{first_refusal, no_line, if_accepted}
+use Rattle.std.specs.Prelude.{Err}
+use Rattle.refusals.specs.Verdict.{Verdict, Accepted, Refused, first_refusal, no_line, if_accepted}
 use Rattle.cell.specs.declared.Cell.{Cell}
 use Rattle.recipe.specs.declared.Recipe.{Recipe}
 use Rattle.positions.specs.declared.Configuration.{Configuration}
@@ -40,7 +39,7 @@ stops : (rules rest : List Verdict) (refusal : Refusal) (line : ℕ)
 unfolding first_refusal
 stops [] rest refusal line = refl
 stops (Accepted ∷ rules) rest refusal line = stops rules rest refusal line
-stops (Refused first at ∷ rules) rest refusal line = refl
+stops (Err broken ∷ rules) rest refusal line = refl
 
 module _ (c : Cell) (r : Recipe) where
   -- "same refusals": the rules before 15, and the check of sizes

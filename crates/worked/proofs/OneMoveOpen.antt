@@ -7,7 +7,7 @@ use native.Mathlib.Omega.{arith}
 use lib.ListN.{get_or}
 use lib.Dec.{eqb}
 use borrow.Author.Tests.{eqb-true}
-use Rattle.refusals.specs.declared.Verdict.TheVariants.{Accepted}
+use Rattle.refusals.specs.Verdict.{Accepted}
 use Rattle.refusals.proofs.TabulatedLists.{length_tabulate}
 use Rattle.refusals.proofs.Verdicts.{and_left, and_right}
 use Rattle.cell.specs.declared.Cell.{Cell}

@@ -6,11 +6,9 @@ use Prim.Native.Nat.{ℕ, ◌≤◌}
 use native.Mathlib.Omega.{arith}
 use lib.ListN.{length}
 use Rattle.refusals.specs.declared.Refusal.TheVariants.{TooShort}
-use Rattle.refusals.specs.declared.Verdict.{Verdict}
-use Rattle.refusals.specs.declared.Verdict.TheVariants.{Accepted, Refused}
+use Rattle.refusals.specs.Verdict.{Verdict, Accepted, Refused}
 use Rattle.planner.specs.Call.{check_plan, PlanCall}
-use Rattle.install.specs.declared.Listing.{Listing}
-use Rattle.install.specs.Call.{InstallCall}
+use Rattle.install.specs.Call.{Listing, InstallCall}
 use Rattle.worked.specs.Moves.{bench_cell, bench_recipe, limit_cell, limit_recipe}
 use Rattle.worked.proofs.LedRecipes.{led_recipes}
 use Rattle.worked.proofs.LentLengths.{check_passes, check_short}

@@ -10,8 +10,7 @@ use native.Mathlib.Omega.{arith}
 use lib.ListN.{length, get_or}
 use lib.Dec.{eqb, ltb, leb}
 use borrow.Author.Tests.{eqb-true, eqb-false, eq-eqb, ne_eqb, ltb-true, leb-true}
-use Rattle.refusals.specs.declared.Verdict.{Verdict}
-use Rattle.refusals.specs.declared.Verdict.TheVariants.{Accepted}
+use Rattle.refusals.specs.Verdict.{Verdict, Accepted}
 use Rattle.refusals.proofs.Verdicts.{and_left, and_right, or_cases}
 use Rattle.cell.specs.declared.Cell.{Cell}
 use Rattle.positions.specs.declared.Configuration.{Configuration}

@@ -7,8 +7,7 @@ use Prim.Native.Nat.{ℕ, ◌≤◌}
 use lib.ListN.{length, get_or}
 use lib.Dec.{eqb}
 use Rattle.refusals.specs.declared.Refusal.TheVariants.{TooShort, NotRealisable}
-use Rattle.refusals.specs.declared.Verdict.{Verdict}
-use Rattle.refusals.specs.declared.Verdict.TheVariants.{Accepted, Refused}
+use Rattle.refusals.specs.Verdict.{Verdict, Accepted, Refused}
 use Rattle.refusals.specs.Search.{count_below}
 use Rattle.positions.specs.Position.{start}
 use Rattle.positions.specs.Rules.{check_sizes}

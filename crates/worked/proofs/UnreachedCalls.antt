@@ -6,8 +6,7 @@ use Prim.Native.Nat.{ℕ, ◌<◌}
 use native.Mathlib.Omega.{arith}
 use lib.ListN.{length}
 use Rattle.refusals.specs.declared.Refusal.TheVariants.{UnreachedPoint}
-use Rattle.refusals.specs.declared.Verdict.{Verdict}
-use Rattle.refusals.specs.declared.Verdict.TheVariants.{Accepted, Refused}
+use Rattle.refusals.specs.Verdict.{Verdict, Accepted, Refused}
 use Rattle.cell.specs.declared.Cell.{Cell}
 use Rattle.recipe.specs.declared.Recipe.{Recipe}
 use Rattle.positions.specs.Sizes.{points_of}
@@ -18,8 +17,7 @@ use Rattle.reached.proofs.Chains.{one_unreached}
 use Rattle.planner.specs.Call.{PlanCall}
 use Rattle.planner.proofs.OnePlan.{unreached_checked}
 use Rattle.planner.proofs.Demands as demands
-use Rattle.install.specs.declared.Listing.{Listing}
-use Rattle.install.specs.Call.{InstallCall}
+use Rattle.install.specs.Call.{Listing, InstallCall}
 use Rattle.install.proofs.InstallAnswers.{plan_refused}
 use Rattle.worked.specs.Moves.{bench_cell}
 use Rattle.worked.specs.Unreached.{forgotten_recipe, loop_recipe, turned_else}

@@ -3,9 +3,8 @@
 use mathlib.Core.Path.{◌≡◌, refl, sym, ◌∙◌}
 use mathlib.Core.Bool.{true, false, true≢false}
 use Prim.Native.Nat.{ℕ}
-use Rattle.refusals.specs.declared.Verdict.TheVariants.{Accepted}
+use Rattle.refusals.specs.Verdict.{Accepted, first_refusal, first_line, no_line, if_accepted, rule3, line_verdict}
 use Rattle.refusals.specs.Search.{first_below, any_below, count_below, greatest_below, tabulate, is_of, every}
-use Rattle.refusals.specs.Verdict.{first_refusal, first_line, no_line, if_accepted, rule3, line_verdict}
 use Rattle.tables.specs.Lines.{lengthened, parted, lines, value_lines, shown_line, extent}
 use Rattle.tables.specs.Numbers.{is_digit, is_number, decimal, is_row}
 use Rattle.tables.specs.Table.{starts, rule1, first_broken, is_broken, rule2, number_at, column}

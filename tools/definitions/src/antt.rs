@@ -3,7 +3,7 @@
 use crate::words::{antt_words, trees, Tree, Word};
 
 /// Words that may stand before a declaration.
-const MARKS: &[&str] = &["unfoldable", "abbrev", "axiom", "pub"];
+const MARKS: &[&str] = &["pattern", "unfoldable", "abbrev", "axiom", "pub"];
 
 /// Forms that nothing here uses yet, and that would bring names unseen.
 const UNREAD: &[&str] = &["open", "mutual", "infix", "infixl", "infixr", "ruleset"];
@@ -157,15 +157,18 @@ impl<'a> Antt<'a> {
         Ok(())
     }
 
+    /// A function; what a `pattern` declares is cited in patterns, as a constructor is.
     fn add_function(&mut self, item: &[Word<'a>], words: &[Word<'a>], inside: Option<usize>) {
         let lines = lines(item);
+        let name = words[0].text;
+        let constructors = item.iter().take(1).filter(|word| word.text == "pattern");
         self.declarations.push(Declaration {
-            name: words[0].text,
+            name,
             form: Form::Function {
                 signature: trees(words),
                 clauses: Vec::new(),
             },
-            constructors: Vec::new(),
+            constructors: constructors.map(|_| name).collect(),
             inside,
             statement_lines: lines.clone(),
             lines,

@@ -21,7 +21,7 @@ pub struct Function<'a> {
     pub last_line: usize,
 }
 
-/// A struct or an enum.
+/// A struct, an enum, or another name of a type.
 #[derive(Clone, Debug)]
 pub struct Type<'a> {
     pub name: &'a str,
@@ -55,7 +55,7 @@ impl<'a> Rattle<'a> {
             let next = match trees[at].leaf().map(|word| word.text) {
                 Some(text) if text.starts_with("#!") => after_attribute(trees, at),
                 Some("use") => self.add_use(trees, start, at),
-                Some("struct" | "enum") => self.add_type(trees, start, at),
+                Some("struct" | "enum" | "type") => self.add_type(trees, start, at),
                 Some("impl") => self.add_impl(trees, at),
                 Some("fn") => self.add_function(trees, start, at, owner),
                 Some(";") => Some(at + 1),

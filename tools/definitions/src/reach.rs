@@ -10,13 +10,24 @@ use crate::repository::Repository;
 use crate::roots::{Calls, Root};
 
 /// Names of the prelude, which need no import.
-const PRELUDE: &[&str] = &["⊥", "¬", "Dec"];
+const PRELUDE: &[&str] = &["⊥", "¬", "Dec", "Unit", "tt"];
 
 /// Types of the code that need no import.
 const PLAIN_TYPES: &[&str] = &["Option", "Result", "Vec", "String", "Box"];
 
 /// The constructors of the toolchain's types. A pattern takes any other imported name for a variable.
-const CONSTRUCTORS: &[&str] = &["zero", "suc", "true", "false", "[]", "◌∷◌"];
+const CONSTRUCTORS: &[&str] = &[
+    "zero",
+    "suc",
+    "true",
+    "false",
+    "[]",
+    "◌∷◌",
+    "None",
+    "Some",
+    "Ok",
+    "Err",
+];
 
 /// Something to read.
 #[derive(Clone, Debug, PartialEq, Eq, PartialOrd, Ord)]
@@ -33,7 +44,7 @@ pub enum Part {
     Definition,
     /// A theorem's statement, without its proof.
     Statement,
-    /// A struct or an enum of the code.
+    /// A struct, an enum or a type's other name in the code.
     Type,
     /// A function's signature and contract.
     Contract,

@@ -9,5 +9,5 @@ pub returns : goal.returns
 returns c =
     c.refusal_number.ensures
     ∙ ap refusal_in
-    (c.check-verdict.ensures
+    (c.check.ensures
     ∙ ap (λ (x : Cell). check_sizes x (chapters_from c.args.recipes.now)) c.get_cell.ensures)

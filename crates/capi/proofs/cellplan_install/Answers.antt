@@ -1,12 +1,13 @@
-use Prim.Native.Nat.{◌≤◌}
+use native.Mathlib.Omega.{arith}
+use Rattle.refusals.specs.Verdict.{refusal_in}
+use Rattle.install.specs.Call.{listing_of}
 use Rattle.capi.proofs.Answers.{install_answered}
-use borrow.Author.Rules.{rules}
 use Rattle.capi.proofs.cellplan_install.Goals as goal
 
-pub overflow_add-result : goal.overflow_add-result
-overflow_add-result c =
-    let few : c.install-listing.result.count ≤ 24576 = c.install-listing.ensures.few in search rules
+pub returns-in-Ok : goal.returns-in-Ok
+unfolding refusal_in listing_of
+returns-in-Ok c = install_answered c.get_cell-cell.ensures c.get_recipe-recipe.ensures (omega arith) c.in-Ok.ensures
 
-pub returns : goal.returns
-returns c =
-    install_answered c.get_cell.ensures c.get_recipe.ensures c.refusal_number.ensures c.install-listing.ensures
+pub returns-in-Err : goal.returns-in-Err
+unfolding refusal_in listing_of
+returns-in-Err c = install_answered c.get_cell-cell.ensures c.get_recipe-recipe.ensures (omega (arith, c.from.ensures, c.number.ensures)) c.in-Err.ensures

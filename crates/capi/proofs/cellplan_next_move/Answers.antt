@@ -1,17 +1,18 @@
-use mathlib.Core.Path.{ap, ◌∙◌}
-use Prim.Native.Nat.{ℕ, ◌+◌, ◌*◌}
-use Rattle.chapters.specs.Records.{chapters_from}
-use Rattle.run.specs.Calls.{next_move}
+use mathlib.Core.Path.{ap}
+use native.Mathlib.Omega.{arith}
+use Rattle.refusals.specs.Verdict.{refusal_in}
+use Rattle.run.specs.Calls.{move_of}
 use Rattle.capi.specs.Answer.{move_code}
 use Rattle.capi.proofs.cellplan_next_move.Goals as goal
 
-pub returns : goal.returns
-unfolding move_code
-returns c =
-    let move = c.next_move-answer.result in
-    ap (λ (n : ℕ). n * 4294967296 + move.entry) c.refusal_number.ensures
-    ∙ ap move_code
-    (c.next_move-answer.ensures
-    ∙
-    (λ i. next_move (c.get_cell.ensures i) (chapters_from c.args.recipes.now) c.args.table.now
-    (c.get_run-run.ensures i)))
+pub returns-in-Ok : goal.returns-in-Ok
+unfolding refusal_in move_of move_code
+returns-in-Ok c =
+    let found = ap move_code (rw (c.get_cell.ensures, c.get_run-run.ensures) at c.in-Ok.ensures) in
+    omega (arith, c.from.ensures, found)
+
+pub returns-in-Err : goal.returns-in-Err
+unfolding refusal_in move_of move_code
+returns-in-Err c =
+    let refused = ap move_code (rw (c.get_cell.ensures, c.get_run-run.ensures) at c.in-Err.ensures) in
+    omega (arith, c.from-in-Err.ensures, c.number.ensures, refused)

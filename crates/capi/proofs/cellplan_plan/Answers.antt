@@ -9,8 +9,8 @@ pub returns : goal.returns
 returns c =
     let a = c.args in
     record {
-      answered = plan_answered c.get_cell.ensures c.refusal_number.ensures c.plan-verdict.ensures.call;
+      answered = plan_answered c.get_cell.ensures c.refusal_number.ensures c.plan.ensures.call;
       fixed =
-          subst (λ (x : Cell). FixedCall x (chapters_from a.recipes.now) a.table.now a.scratch.now c.plan-verdict.new.table) c.get_cell.ensures
-          c.plan-verdict.ensures.fixed;
+          subst (λ (x : Cell). FixedCall x (chapters_from a.recipes.now) a.table.now a.scratch.now c.plan.new.table) c.get_cell.ensures
+          c.plan.ensures.fixed;
     }

@@ -1,23 +1,17 @@
 use mathlib.Core.Path.{◌∙◌}
-use Rattle.chapters.specs.Records.{chapters_from}
-use Rattle.run.specs.Calls.{report_of}
-use Rattle.capi.proofs.Answers.{report_short, report_put}
+use Rattle.capi.proofs.Answers.{report_short, report_put, report_refused}
 use Rattle.capi.proofs.cellplan_report.Goals as goal
 
-pub returns-then-buffer-lt16 : goal.returns-then-buffer-lt16
-returns-then-buffer-lt16 c =
-    report_short _ _ c.args.buffer.now _
-    (c.report-answer.ensures
-    ∙
-    (λ i. report_of (c.get_cell.ensures i) (chapters_from c.args.recipes.now) c.args.table.now
-    (c.get_run-run.ensures i) c.args.outcome))
-    c.refusal_number-refusal.ensures c.if-buffer-lt16.true
+pub returns-then-buffer-ge16 : goal.returns-then-buffer-ge16
+returns-then-buffer-ge16 c =
+    report_put _ c.args.buffer.now c.in-Ok.next (rw (c.get_cell.ensures, c.get_run-run.ensures) at c.in-Ok.ensures) _ c.if-buffer-ge16.true
+    c.put_run.ensures
 
-pub returns : goal.returns
-returns c =
-    report_put _ _ c.args.buffer.now _
-    (c.report-answer.ensures
-    ∙
-    (λ i. report_of (c.get_cell.ensures i) (chapters_from c.args.recipes.now)
-    c.args.table.now (c.get_run-run.ensures i) c.args.outcome))
-    c.refusal_number-refusal.ensures _ c.if-buffer-lt16.false c.put_run.ensures
+pub returns-else-buffer-ge16 : goal.returns-else-buffer-ge16
+returns-else-buffer-ge16 c =
+    report_short _ c.args.buffer.now c.in-Ok.next (rw (c.get_cell.ensures, c.get_run-run.ensures) at c.in-Ok.ensures) c.if-buffer-ge16.false
+
+pub returns-in-Err : goal.returns-in-Err
+returns-in-Err c =
+    report_refused _ c.args.buffer.now c.in-Err.broken _ (rw (c.get_cell.ensures, c.get_run-run.ensures) at c.in-Err.ensures)
+    (c.from.ensures ∙ c.number.ensures)

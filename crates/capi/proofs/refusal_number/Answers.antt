@@ -2,10 +2,10 @@ use mathlib.Core.Path.{sym, ap, ◌∙◌}
 use Rattle.refusals.specs.Verdict.{refusal_in}
 use Rattle.capi.proofs.refusal_number.Goals as goal
 
-pub returns-in-Accepted : goal.returns-in-Accepted
+pub returns-in-Ok : goal.returns-in-Ok
 unfolding refusal_in
-returns-in-Accepted c = sym (ap refusal_in c.in-Accepted.is)
+returns-in-Ok c = sym (ap refusal_in c.in-Ok.is)
 
-pub returns-in-Refused : goal.returns-in-Refused
+pub returns-in-Err : goal.returns-in-Err
 unfolding refusal_in
-returns-in-Refused c = c.number.ensures ∙ sym (ap refusal_in c.in-Refused.is)
+returns-in-Err c = c.from.ensures ∙ c.number.ensures ∙ sym (ap refusal_in c.in-Err.is)

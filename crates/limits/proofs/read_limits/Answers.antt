@@ -1,22 +1,20 @@
 use mathlib.Core.Path.{sym, ◌∙◌}
-use Rattle.refusals.specs.Verdict.{first_refusal}
+use Rattle.std.proofs.lemmas.Result.{err_from_is_err_and}
 use Rattle.refusals.proofs.Verdicts.{count_in_range}
 use Rattle.cell.proofs.AcceptedRecord.{each_accepts}
-use Rattle.limits.specs.Reader.{at_no_line, judge_limits, read_limits}
-use Rattle.limits.specs.Inner.{reading}
+use Rattle.limits.proofs.FileJudged.{record_refused, file_refused, file_accepted}
 use Rattle.limits.proofs.read_limits.Goals as goal
 
+pub returns-in-Err : goal.returns-in-Err
+returns-in-Err c = record_refused _ _ (sym c.check_cell.ensures ∙ c.in-Err.is)
+
 pub read_file-requires : goal.read_file-requires
-read_file-requires c =
-    let cell = c.args.cell in
-    (count_in_range cell.count (each_accepts cell (sym c.check_cell.ensures ∙ c.in-Accepted.is)).third).most
+read_file-requires c = (count_in_range _ (each_accepts c.args.cell (sym c.check_cell.ensures ∙ c.in_default.is)).third).most
 
-pub returns-in-Accepted : goal.returns-in-Accepted
-unfolding first_refusal at_no_line judge_limits reading read_limits
-returns-in-Accepted c = c.read_file.ensures ∙ rw (sym c.check_cell.ensures ∙ c.in-Accepted.is)
+pub returns-in_err-limits : goal.returns-in_err-limits
+returns-in_err-limits c =
+    let p = err_from_is_err_and c.from_residual.result c.from_residual.ensures.1 in
+    rw (p.1, p.2) (file_refused _ _ (sym c.check_cell.ensures ∙ c.in_default.is) c.read_file.ensures c.in_err-limits.was)
 
-pub returns-in-Refused : goal.returns-in-Refused
-unfolding first_refusal at_no_line judge_limits reading read_limits
-returns-in-Refused c =
-    c.refused.ensures c.args.file.now
-    ∙ rw (sym c.check_cell.ensures ∙ c.in-Refused.is)
+pub returns : goal.returns
+returns c = file_accepted _ _ (sym c.check_cell.ensures ∙ c.in_default.is) c.read_file.ensures c.in_ok-limits.was

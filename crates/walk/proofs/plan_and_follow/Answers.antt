@@ -1,20 +1,13 @@
-use Rattle.std.proofs.lemmas.Bool.{not-true}
+use mathlib.Core.Path.{refl}
 use Rattle.walk.specs.Output.{names_line}
-use Rattle.walk.proofs.WholeWalk.{walk_refused, walk_followed}
+use Rattle.walk.proofs.WholeWalk.{told_refused, told_followed}
 use Rattle.walk.proofs.plan_and_follow.Goals as goal
 
-pub returns-in_default : goal.returns-in_default
+pub returns-else-last : goal.returns-else-last
 unfolding names_line
-returns-in_default g c =
-    λ written.
-    let ready = c.prepare-ready in
-    walk_refused _ _ ready.result ready.ensures.fixed _ _ _ _ (c.print-names.ensures.written c.if-names.false)
-    (c.print_refusal-line.ensures.written (not-true _ written))
+returns-else-last g c =
+    λ written. told_followed _ c.in-Ok.ensures.fixed (c.in_ok-print.ensures refl) c.follow-last.ensures.streams c.if-last.false
 
-pub returns : goal.returns
+pub returns-in-Err : goal.returns-in-Err
 unfolding names_line
-returns g c =
-    λ written.
-    let ready = c.prepare-ready in
-    walk_followed _ _ ready.result ready.ensures.fixed _ _ _ _ _ _ _ c.in-Accepted.is (c.print-names.ensures.written c.if-names.false)
-    c.follow-last.ensures.streams (not-true _ written)
+returns-in-Err g c = λ written. told_refused _ c.in-Err.ensures.fixed (c.in_ok-print.ensures refl) (c.print_refusal.ensures written)

@@ -1,35 +1,39 @@
 use mathlib.Core.Path.{refl}
 use native.Mathlib.Omega.{arith}
-use Rattle.walk.proofs.FilesDecide.{few_lines, kept_recipe, kept_chapter, prepared_refused, prepared_planned, fixed_refused, fixed_planned}
+use Rattle.std.proofs.lemmas.Result.{err_from_is_err_and}
+use Rattle.recipe.specs.Reader.{reading_of}
+use Rattle.std.specs.Prelude.{Err}
+use Rattle.refusals.specs.Verdict.{Accepted, found_if}
+use Rattle.walk.proofs.FilesDecide.{few_lines, prepared_of, told_cell, told_recipe, told_plan}
 use Rattle.walk.proofs.prepare.Goals as goal
 
-pub returns-in_default : goal.returns-in_default
-returns-in_default g c =
-    let cell = c.read_cell-reading in
-    let recipe = c.read_recipe-reading in
-    record {
-      prepared = prepared_refused _ _ cell.result recipe.result cell.ensures recipe.ensures.read _ c.first_refusal-verdict.ensures c.in_default.is;
-      fixed = fixed_refused _ _ cell.result recipe.result cell.ensures recipe.ensures.read _ c.first_refusal-verdict.ensures c.in_default.is;
-    }
+pub returns-in_err-cell : goal.returns-in_err-cell
+returns-in_err-cell g c =
+    let p = err_from_is_err_and c.from_residual.result c.from_residual.ensures.1 in
+    let told = told_cell c.in_err-cell.ensures in
+    record { prepared = rw (p.1, p.2) (prepared_of told); fixed = rw (p.1, p.2) told }
+
+pub returns-in_err-recipe : goal.returns-in_err-recipe
+returns-in_err-recipe g c =
+    let p = err_from_is_err_and c.from_residual-in_err-recipe.result c.from_residual-in_err-recipe.ensures.1 in
+    let told = told_recipe _ c.in_ok-cell.ensures c.in_err-recipe.ensures in
+    record { prepared = rw (p.1, p.2) (prepared_of told); fixed = rw (p.1, p.2) told }
 
 pub put_recipe-requires : goal.put_recipe-requires
-put_recipe-requires g c = (few_lines c.read_recipe-reading.ensures.read, omega (arith, c.requires.recipes_len))
+unfolding reading_of
+put_recipe-requires g c = (few_lines c.in_ok-recipe.ensures, omega (arith, c.requires.recipes_len))
+
+pub returns-in_err-plan : goal.returns-in_err-plan
+unfolding found_if
+returns-in_err-plan g c =
+    let p = err_from_is_err_and c.from_residual-in_err-plan.result c.from_residual-in_err-plan.ensures.1 in
+    let plan = c.in_err-plan.ensures in
+    let told = told_plan _ (Err c.in_err-plan.field-0.0) _ c.in_ok-cell.ensures c.in_ok-recipe.ensures c.requires.recipes_len c.put_recipe.ensures c.requires.table_len refl plan.call plan.fixed in
+    record { prepared = rw (p.1, p.2) (prepared_of told); fixed = rw (p.1, p.2) told }
 
 pub returns : goal.returns
+unfolding found_if
 returns g c =
-    let cell = c.read_cell-reading in
-    let reading = c.read_recipe-reading.result in
-    let read = c.read_recipe-reading.ensures.read in
-    let old = c.args.recipes.now in
-    let long = c.requires.recipes_len in
-    let put = c.put_recipe.ensures in
-    let kept = kept_recipe reading read old _ long put in
-    let chapter = kept_chapter reading read old _ long put in
-    record {
-      prepared =
-          prepared_planned _ _ cell.result reading cell.ensures read _ _ _ _ _ c.first_refusal-verdict.ensures c.in-Accepted.is
-          c.requires.table_len refl kept chapter c.plan-verdict.ensures.call;
-      fixed =
-          fixed_planned _ _ cell.result reading cell.ensures read _ _ _ _ _ c.first_refusal-verdict.ensures c.in-Accepted.is
-          c.requires.table_len refl kept chapter c.plan-verdict.ensures.call c.plan-verdict.ensures.fixed;
-    }
+    let plan = c.in_ok-plan.ensures in
+    let told = told_plan _ Accepted _ c.in_ok-cell.ensures c.in_ok-recipe.ensures c.requires.recipes_len c.put_recipe.ensures c.requires.table_len refl plan.call plan.fixed in
+    record { prepared = prepared_of told; fixed = told }

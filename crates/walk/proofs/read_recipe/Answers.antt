@@ -1,5 +1,5 @@
 use Rattle.walk.proofs.FilesDecide.{recipe_start}
 use Rattle.walk.proofs.read_recipe.Goals as goal
 
-pub returns-clause-read : goal.returns-clause-read
-returns-clause-read g c = recipe_start c.read_start-length.result c.read_start-length.new.start c.read_start-length.auto.start c.read_recipe-2.ensures
+pub returns : goal.returns
+returns g c = recipe_start c.read_start-length.result c.read_start-length.new.start c.read_start-length.auto.start c.read_recipe.ensures

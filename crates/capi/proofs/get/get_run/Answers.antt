@@ -10,5 +10,4 @@ returns-then-bytes-lt16 c = rw (lt-ltb (length c.args.bytes.now) 16 c.if-bytes-l
 
 pub returns : goal.returns
 unfolding run_from
-returns c =
-    rw (c.get_configuration-configuration.ensures, le-ltb (length c.args.bytes.now) 16 c.if-bytes-lt16.false)
+returns c = rw (c.get_configuration.ensures, le-ltb (length c.args.bytes.now) 16 c.if-bytes-lt16.false)

@@ -1,29 +1,28 @@
 use mathlib.Core.Path.{◌≡◌, refl, sym, ap, ◌∙◌}
-use Rattle.refusals.specs.declared.Verdict.{Verdict}
-use Rattle.refusals.specs.declared.Verdict.TheVariants.{Accepted}
-use Rattle.refusals.specs.Verdict.{first_refusal, rule3, if_accepted}
-use Rattle.refusals.proofs.Verdicts.{count_in_range}
+use Rattle.std.proofs.lemmas.Result.{err_from_is_err_and}
+use Rattle.refusals.specs.Verdict.{Verdict, Accepted, rule3, found_if}
+use Rattle.refusals.proofs.Verdicts.{count_most}
+use Rattle.refusals.proofs.Rules.{tried_err, found_err}
 use Rattle.cell.specs.Rules.{cell_rules, check_cell}
 use Rattle.cell.specs.Reader.{cell_of}
-use Rattle.cell.specs.Inner.{reading, after_range}
 use Rattle.cell.proofs.StationLimits.{eights_pass}
 use Rattle.cell.proofs.reader.read_lines.Goals as goal
 
+pub returns-in_err-check_count : goal.returns-in_err-check_count
+unfolding check_cell cell_rules cell_of
+returns-in_err-check_count c =
+    let p = err_from_is_err_and c.from_residual.result c.from_residual.ensures.1 in
+    λ f all kept.
+    rw (p.1, p.2)
+    (sym (found_err _ _ (tried_err _ _ (ap rule3 (sym all) ∙ sym c.check_count.ensures ∙ c.in_err-check_count.was))))
+
 pub store_lines-requires : goal.store_lines-requires
-store_lines-requires c = let n = c.args.count in
-    let e : rule3 n ≡ Accepted = sym c.check_count.ensures ∙ c.in-Accepted.is in
-    (c.requires, (count_in_range n e).most)
+store_lines-requires c = (c.requires, count_most _ (sym c.check_count.ensures ∙ c.in_ok-check_count.was))
 
-pub returns-in-Accepted : goal.returns-in-Accepted
+pub returns : goal.returns
 unfolding cell_of
-returns-in-Accepted c =
-    let n = c.args.count in
-    let counted : rule3 n ≡ Accepted = sym c.check_count.ensures ∙ c.in-Accepted.is in
-    λ f all kept. c.store_lines.ensures f all kept
-    ∙ ap (λ (v : Verdict). reading v (cell_of f)) (eights_pass (cell_of f) refl (rw all at counted))
-
-pub returns-in-Refused : goal.returns-in-Refused
-unfolding first_refusal check_cell cell_rules after_range cell_of reading if_accepted
-returns-in-Refused c =
-    λ f all kept. c.refused.ensures
-    ∙ rw (← all, sym c.check_count.ensures ∙ c.in-Refused.is)
+returns c =
+    let counted : rule3 c.args.count ≡ Accepted = sym c.check_count.ensures ∙ c.in_ok-check_count.was in
+    λ f all kept.
+    c.store_lines.ensures f all kept
+    ∙ ap (λ (v : Verdict). found_if v (cell_of f)) (eights_pass (cell_of f) refl (rw all at counted))

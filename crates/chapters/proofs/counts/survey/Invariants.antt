@@ -1,4 +1,3 @@
-use Prim.Native.Nat.{◌-◌}
 use Rattle.chapters.specs.Records.{chapters_from}
 use Rattle.chapters.specs.Survey.{SeesAt}
 use Rattle.chapters.proofs.CountedChapters.{SoFar}
@@ -6,6 +5,3 @@ use Rattle.chapters.proofs.counts.survey.Given as goal
 
 abbrev pub invariant-loop-k : goal.invariant-loop-k
 invariant-loop-k l = SoFar l.plans (chapters_from l.recipes) l.wanted l.k l.counts × SeesAt l.plans (chapters_from l.recipes) l.wanted l.seen
-
-abbrev pub decreases-loop-k : goal.decreases-loop-k
-decreases-loop-k l = l.number - l.k

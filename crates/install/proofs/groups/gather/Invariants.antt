@@ -1,17 +1,13 @@
 use mathlib.Core.Path.{◌≡◌}
-use Prim.Native.Nat.{◌+◌, ◌-◌, ◌<◌, ◌≤◌}
+use Prim.Native.Nat.{◌+◌, ◌<◌, ◌≤◌}
 use Rattle.recipe.specs.declared.Recipe.{Recipe}
 use Rattle.install.specs.Search.{Question, Gathered}
 use Rattle.install.proofs.groups.gather.Given as goal
 
 abbrev pub invariant-loop-added : goal.invariant-loop-added
 invariant-loop-added l = (l.longer.count ≡ l.cell.count + l.added)
-    × (l.added ≤ l.size)
     × (l.from ≤ l.next)
     × (l.next ≤ l.end)
     × (l.from ≤ l.last)
     × (1 ≤ l.added → l.last < l.next)
     × ((r : Recipe) → Question l.cell r l.sizes l.named → Gathered l.cell r l.from l.next l.added l.last l.longer)
-
-abbrev pub decreases-loop-added : goal.decreases-loop-added
-decreases-loop-added l = l.size - l.added

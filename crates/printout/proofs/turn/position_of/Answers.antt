@@ -1,5 +1,4 @@
 use mathlib.Core.Path.{sym, ap, ◌∙◌}
-use borrow.Author.Tests.{not-false, not-true}
 use Rattle.positions.specs.declared.Sizes.{Sizes}
 use Rattle.positions.specs.Position.{position_of}
 use Rattle.positions.specs.Rules.{is_position}
@@ -10,11 +9,11 @@ use Rattle.printout.proofs.turn.position_of.Goals as goal
 pub returns-in_default : goal.returns-in_default
 returns-in_default c =
     let s = c.args in
-    no_records s.cell s.recipe s.run _ c.check_records-checked.ensures c.in_default.is
+    no_records s.cell s.recipe s.run _ c.check_records.ensures c.in_default.is
 
 pub measure-sizes-requires : goal.measure-sizes-requires
 measure-sizes-requires c =
-    let both = both_ok _ _ (sym c.check_records-checked.ensures ∙ c.in-Accepted.is) in
+    let both = both_ok _ _ (sym c.check_records.ensures ∙ c.in-Ok.is) in
     record {
       cell_value = both.0;
       recipe_value = both.1;
@@ -29,14 +28,14 @@ returns-then-not-is_position c =
     s.recipe
     s.run
     _
-    c.check_records-checked.ensures
-    c.in-Accepted.is
-    (placed ∙ sym c.is_position.ensures ∙ not-true _ c.if-not-is_position.true-raw)
+    c.check_records.ensures
+    c.in-Ok.is
+    (placed ∙ sym c.is_position.ensures ∙ c.if-not-is_position.true)
 
 pub position-requires : goal.position-requires
 position-requires c = record {
   fitting = c.measure-sizes.ensures.1;
-  configuration_value = sym c.is_position.ensures ∙ not-false _ c.if-not-is_position.false-raw;
+  configuration_value = sym c.is_position.ensures ∙ c.if-not-is_position.false;
 }
 
 pub returns : goal.returns
@@ -51,6 +50,6 @@ returns c =
     s.recipe
     s.run
     _
-    c.check_records-checked.ensures
-    c.in-Accepted.is
-    (placed ∙ sym c.is_position.ensures ∙ not-false _ c.if-not-is_position.false-raw)
+    c.check_records.ensures
+    c.in-Ok.is
+    (placed ∙ sym c.is_position.ensures ∙ c.if-not-is_position.false)

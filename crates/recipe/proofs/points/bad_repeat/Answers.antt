@@ -1,69 +1,31 @@
-use mathlib.Core.Path.{◌≡◌, sym, ap, ◌∙◌}
-use Prim.Native.Nat.{◌-◌}
-use native.Mathlib.Omega.{arith}
-use Rattle.refusals.specs.Search.{count_below}
-use Rattle.refusals.proofs.Scan.{any_more, any_hit, any_end}
-use lib.Dec.{leb}
+use Rattle.std.proofs.Common.{◌≡◌, ◌-◌, leb, refl, sym, ap, ◌∙◌, arith, rules, tests}
+use Rattle.std.proofs.lemmas.Iterator.{YieldsList-from_range}
+use Rattle.std.proofs.lemmas.Iterator.Search.{any_from_yields_List}
+use Rattle.refusals.specs.Search.{any_below, count_below}
 use Rattle.recipe.specs.Rules.{breaks_repeat, clashes}
 use Rattle.recipe.specs.Inner.{same_point}
-use Rattle.recipe.proofs.PointOrder.{none_clashes, clashes_at, rest_same}
+use Rattle.recipe.proofs.PointOrder.{any_from_start, none_clashes, clashes_at, rest_same}
 use Rattle.recipe.proofs.points.bad_repeat.Goals as goal
+use Rattle.recipe.proofs.points.bad_repeat.Goals.{After-any}
 
-pub point_start-start-requires : goal.point_start-start-requires
-point_start-start-requires c = record {
-  n_bound = c.requires.n_bound;
-  n_value = (c.requires.n_value);
-}
+-- the search from the point's first line on finds what one over all lines before line n does
+clashing : (c : After-any) → c.any.result ≡ any_below (clashes c.args.recipe.now.point c.args.recipe.now.kind c.args.recipe.now.then c.args.n) c.args.n
+clashing c =
+    let r = c.args.recipe.now in
+    let start = c.point_start-start.result in
+    let from = c.point_start-start.ensures in
+    any_from_yields_List _ _ _ _ c.any.ensures.ran (YieldsList-from_range start c.args.n _ refl refl) (λ x b q k. search (rules, tests))
+    ∙ any_from_start r.point c.args.n start from.0 from.1 _ _ (none_clashes _ _ _ from.0 from.1 r.kind r.then) (clashes_at _ _ _ from.0 from.1 _ _)
 
-pub loop-k-init : goal.loop-k-init
-loop-k-init c = let found = c.point_start-start.ensures in (omega arith, found.0, none_clashes _ _ _ found.0 found.1 _ _)
-
-pub bounds-kind-n : goal.bounds-kind-n
-bounds-kind-n c = omega arith
-
-pub bounds-then-n : goal.bounds-then-n
-bounds-then-n c = omega arith
-
-pub bounds-kind-k : goal.bounds-kind-k
-bounds-kind-k c = omega arith
-
-pub bounds-then-k : goal.bounds-then-k
-bounds-then-k c = omega arith
-
-pub returns-then-clash : goal.returns-then-clash
+pub returns-then-any : goal.returns-then-any
 unfolding breaks_repeat
-returns-then-clash c =
-    let found = c.point_start-start.ensures in
-    let here = c.args in
-    rw
-    (any_hit (clashes here.point.now here.kind.now here.then.now here.n) _ _ c.loop-k-test.true
-    (clashes_at _ _ _ found.0 found.1 _ _ _ c.loop-k.invariant.0 c.loop-k-test.true
-    ∙ sym c.clash.ensures ∙ c.if-clash.true))
+returns-then-any c = rw (sym (clashing (goal.at.returns-then-any c).After-any) ∙ c.if-any.true) c.if-any.true
 
-pub overflow_add-k : goal.overflow_add-k
-overflow_add-k c = omega arith
-
-pub loop-k-smaller : goal.loop-k-smaller
-loop-k-smaller c = omega arith
-
-pub loop-k-preserved : goal.loop-k-preserved
-loop-k-preserved c =
-    let found = c.point_start-start.ensures in (
-      omega arith,
-      omega arith,
-      any_more _ _ c.loop-k.invariant.2
-          (clashes_at _ _ _ found.0 found.1 _ _ _ c.loop-k.invariant.0 c.loop-k-test.true
-          ∙ sym c.clash.ensures ∙ c.if-clash.false),
-    )
-
-pub overflow_sub-result : goal.overflow_sub-result
-overflow_sub-result c = omega arith
-
-pub returns : goal.returns
+pub returns-else-any : goal.returns-else-any
 unfolding breaks_repeat
-returns c =
-    let found = c.point_start-start in
-    let here = c.args in
-    let count : here.n - found.result ≡ count_below (same_point here.point.now here.n) here.n =
-    omega (arith, rest_same here.point.now here.n found.result found.ensures.0 found.ensures.1) in
-    rw (sym (any_end (clashes _ _ _ _) _ _ c.loop-k.invariant.1 c.loop-k-test.false c.loop-k.invariant.2)) (ap (leb 4) count)
+returns-else-any c =
+    let point = c.args.recipe.now.point in
+    let start = c.point_start-start in
+    let count : c.args.n - start.result ≡ count_below (same_point point c.args.n) c.args.n =
+    omega (arith, rest_same point c.args.n start.result start.ensures.0 start.ensures.1) in
+    rw (sym (clashing (goal.at.returns-else-any c).After-any) ∙ c.if-any.false) (ap (leb 4) count)

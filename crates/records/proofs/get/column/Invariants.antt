@@ -1,12 +1,9 @@
 use mathlib.Core.Path.{◌≡◌}
 use mathlib.Core.List.{◌++◌}
-use Prim.Native.Nat.{◌+◌, ◌*◌, ◌-◌, ◌≤◌}
+use Prim.Native.Nat.{◌+◌, ◌*◌}
 use lib.ListN.{get_or, drop, replicate}
 use Rattle.refusals.specs.Search.{tabulate}
 use Rattle.records.proofs.get.column.Given as goal
 
 abbrev pub invariant-loop-n : goal.invariant-loop-n
-invariant-loop-n l = (l.n ≤ 64) × (l.column ≡ tabulate l.n (λ row. get_or l.bytes (1 + row * l.width + l.i) 0) ++ drop l.n (replicate 64 0))
-
-abbrev pub decreases-loop-n : goal.decreases-loop-n
-decreases-loop-n l = 64 - l.n
+invariant-loop-n l = l.column ≡ tabulate l.n (λ row. get_or l.bytes (1 + row * l.width + l.i) 0) ++ drop l.n (replicate 64 0)

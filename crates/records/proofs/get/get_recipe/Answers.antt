@@ -12,13 +12,13 @@ pub returns : goal.returns
 unfolding recipe_from
 returns c =
     rw (
-      c.count_from-count.ensures,
-      c.column-point.ensures,
-      c.column-kind.ensures,
-      c.column-op.ensures,
-      c.column-takes.ensures,
-      c.column-gives.ensures,
-      c.column-then.ensures,
-      c.column-otherwise.ensures,
+      c.from.ensures,
+      c.column.ensures,
+      c.column-2.ensures,
+      c.column-3.ensures,
+      c.column-4.ensures,
+      c.column-5.ensures,
+      c.column-6.ensures,
+      c.column-7.ensures,
       le-ltb (length c.args.bytes.now) 449 c.if-bytes-lt449.false,
     )

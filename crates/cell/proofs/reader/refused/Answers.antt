@@ -1,8 +1,0 @@
-use mathlib.Core.Path.{refl}
-use Rattle.refusals.specs.Verdict.{if_accepted}
-use Rattle.cell.specs.Inner.{reading}
-use Rattle.cell.proofs.reader.refused.Goals as goal
-
-pub returns : goal.returns
-unfolding reading if_accepted
-returns c = refl
