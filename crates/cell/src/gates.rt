@@ -6,7 +6,7 @@ ghost use Rattle.cell.specs.Rules.{alike, stray};
 use crate::{Cell, GATE, OPERATION};
 use refusals::search;
 
-// Whether line k has the wanted act, and the resource, from and arg of line i.
+// Whether line k has the wanted act, and the resource, from and arg of line i, each compared as `alike` does.
 #[tactic(auto, unfolding(crate::specs::Rules::alike))]
 fn is_alike(cell: &Cell, wanted: u8, i: usize, k: usize) -> bool
     requires i_bound { i < 64 }

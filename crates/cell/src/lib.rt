@@ -17,7 +17,7 @@ ghost use Rattle.cell.specs.Inner.{ranges, port_rules};
 
 use refusals::{Broken, Refusal, Verdict};
 
-// The acts of a line. A record may hold other numbers, until rule 4 has seen it.
+// The acts of a line. They are numbers and no enum: a record may hold others, for which `check_cell` answers too.
 pub const INTERNAL: u8 = 0;
 
 pub const OPERATION: u8 = 1;
@@ -30,7 +30,8 @@ pub const GATE: u8 = 4;
 
 // The lines of a cell, an array for each field, and the most parts that each resource may hold; of the lines what lies
 // past the count counts for nothing. No Vec of lines: memory is fixed, and the definitions (`leaves_range`, `partner`, `alike` of
-// specs/Rules) and what is proved of them speak of the columns.
+// specs/Rules) and what is proved of them speak of the columns. Nor is it an invariant that there are 64 lines at most: `check_cell` speaks of
+// records of any count.
 #[derive(Clone, Copy)]
 pub struct Cell {
     pub count: usize,

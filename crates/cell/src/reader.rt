@@ -22,8 +22,8 @@ fn check_lines(cell: &Cell) -> Verdict
 }
 
 // Rule 4 and the rest, over the numbers that rule 2 kept: each field as far as those before it are in range.
-fn store_lines(numbers: &[u32], count: usize) -> Result<Cell, Broken>
-    requires { (448 ≤ length numbers.now) × (count ≤ 64) }
+fn store_lines(numbers: &[u32; 448], count: usize) -> Result<Cell, Broken>
+    requires { count ≤ 64 }
     ensures { (file : List ℕ) → count ≡ length (value_lines file) → Kept 5 file count numbers.now → result ≡ found_if (first_refusal (rule4 (cell_of file) ∷ after_range (cell_of file))) (cell_of file) }
 {
     let resources = field::column(numbers, count, 0, 0, 5);
@@ -32,6 +32,7 @@ fn store_lines(numbers: &[u32], count: usize) -> Result<Cell, Broken>
     let args = field::column(numbers, acts.lines, 3, 0, 63);
     let tos = field::column(numbers, args.lines, 4, 0, 7);
     refusals::at_line(Refusal::Range, tos.lines, count)?;
+    // An array of another value goes into a literal by a local.
     let resource = resources.values;
     let from = froms.values;
     let act = acts.values;
@@ -51,8 +52,7 @@ fn store_lines(numbers: &[u32], count: usize) -> Result<Cell, Broken>
 }
 
 // Rule 3 and the rest, for a file that passed rule 2 with so many lines.
-pub fn read_lines(numbers: &[u32], count: usize) -> Result<Cell, Broken>
-    requires { 448 ≤ length numbers.now }
+pub fn read_lines(numbers: &[u32; 448], count: usize) -> Result<Cell, Broken>
     ensures { (file : List ℕ) → count ≡ length (value_lines file) → Kept 5 file count numbers.now → result ≡ found_if (check_cell (cell_of file)) (cell_of file) }
 {
     refusals::check_count(count)?;

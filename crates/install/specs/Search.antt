@@ -12,6 +12,7 @@ use Rattle.positions.specs.declared.Sizes.{Sizes}
 use Rattle.positions.specs.Checked.{Checked}
 use Rattle.positions.specs.Sizes.{sizes_of}
 use Rattle.install.specs.declared.Group.{Group}
+use Rattle.install.specs.declared.Mending.{Mending}
 use Rattle.install.specs.declared.candidates.Look.{Look}
 use Rattle.install.specs.declared.candidates.Look.TheVariants.{Candidate, Past}
 use Rattle.install.specs.declared.Progress.{Progress}
@@ -44,6 +45,10 @@ pub record Asked (c : Cell) (r : Recipe) (z : Sizes) : Type 0 where
 pub record Question (c : Cell) (r : Recipe) (z : Sizes) (named : List Bool) : Type 0 where
   pub asked : Asked c r z
   pub names : Named r named
+
+-- the number behind the last line: there are 4096 lines for each resource, and at most six resources
+abbrev pub Ends : Mending → Type 0
+Ends m = (m.end ≡ 4096 * m.sizes.now.resources) × (m.end ≤ 24576)
 
 -- one look at line n goes on behind it, and not past the lines of its resource and of the state from which it begins
 abbrev pub Onward : ℕ → Look → Type 0

@@ -8,10 +8,23 @@ mod search;
 ghost use Rattle.install.specs.Call.{InstallCall, listing_of};
 
 use cell::Cell;
+use positions::Sizes;
 use recipe::Recipe;
 use refusals::{Broken, Refusal};
 
+// What every step of a search is given: the cell and the recipe with their sizes, which operations the recipe names, and the number
+// behind the last line.
+#[derive(Clone, Copy)]
+struct Mending<'a> {
+    pub cell: &'a Cell,
+    pub recipe: &'a Recipe,
+    pub sizes: &'a Sizes,
+    pub named: [bool; 64],
+    pub end: usize,
+}
+
 // Candidates added behind the lines of a cell: how many, the number of the last, and where the next group begins.
+// Where `added` is 0, `last` counts for nothing, as `GroupOf` of specs/Search says.
 #[derive(Clone, Copy)]
 pub struct Group {
     pub cell: Cell,

@@ -6,7 +6,7 @@ ghost use Rattle.layers.specs.Moves.{span};
 ghost use Rattle.install.specs.Order.{filled_with};
 ghost use Rattle.install.specs.Search.{Question, Asked, SoFar, Standing, Behind, Tried};
 
-use crate::{Progress, candidates, groups};
+use crate::{Mending, Progress, candidates};
 use cell::{Cell, OperationLine};
 use positions::Sizes;
 use recipe::Recipe;
@@ -52,45 +52,43 @@ fn behind(at: Progress, next: usize, found: usize, most: usize) -> Progress
     }
 }
 
-// Tries the next group: if it does not make the recipe acceptable, none of its lines does; else it is halved, or its one line is
-// listed.
-fn attempt(
-    cell: &Cell,
-    recipe: &Recipe,
-    sizes: &Sizes,
-    named: &[bool; 64],
-    end: usize,
-    at: Progress,
-    table: &mut [u32],
-    scratch: &mut [u8],
-    list: &mut [u8],
-) -> Progress
-    requires question { Question cell.now recipe.now sizes.now named.now }
-    requires standing { Standing cell.now end at }
-    requires end_value { end ≡ 4096 * sizes.now.resources }
-    requires next_lt_end { at.next < end }
-    requires positions_in_bounds { sizes.now.positions ≤ length table.old }
-    requires sizes_bound { span sizes.now ≤ room scratch.old }
-    ensures { Tried cell.now recipe.now end at list.old result list.new }
-{
-    let most = 64 - cell.count;
-    let group = groups::gather(cell, sizes, named, at.next, at.size, end);
-    if group.added == 0 {
-        return behind(at, group.end, at.found, most);
+impl Mending<'_> {
+    // Tries the next group: if it does not make the recipe acceptable, none of its lines does; else it is halved, or its one line is
+    // listed.
+    fn attempt(
+        &self,
+        at: Progress,
+        table: &mut [u32],
+        scratch: &mut [u8],
+        list: &mut [u8],
+    ) -> Progress
+        requires question { Question self.now.cell.now self.now.recipe.now self.now.sizes.now self.now.named }
+        requires standing { Standing self.now.cell.now self.now.end at }
+        requires end_value { self.now.end ≡ 4096 * self.now.sizes.now.resources }
+        requires next_lt_end { at.next < self.now.end }
+        requires positions_in_bounds { self.now.sizes.now.positions ≤ length table.old }
+        requires sizes_bound { span self.now.sizes.now ≤ room scratch.old }
+        ensures { Tried self.now.cell.now self.now.recipe.now self.now.end at list.old result list.new }
+    {
+        let most = 64 - self.cell.count;
+        let group = self.gather(at.next, at.size);
+        if group.added == 0 {
+            return behind(at, group.end, at.found, most);
+        }
+        if !planner::is_realisable(&group.cell, self.recipe, self.sizes, table, scratch) {
+            return behind(at, group.end, at.found, most);
+        }
+        if 1 < group.added {
+            return Progress {
+                next: at.next,
+                size: group.added / 2,
+                halved: true,
+                found: at.found,
+            };
+        }
+        let found = put_line(list, at.found, candidates::line_at(group.last));
+        behind(at, group.end, found, most)
     }
-    if !planner::is_realisable(&group.cell, recipe, sizes, table, scratch) {
-        return behind(at, group.end, at.found, most);
-    }
-    if 1 < group.added {
-        return Progress {
-            next: at.next,
-            size: group.added / 2,
-            halved: true,
-            found: at.found,
-        };
-    }
-    let found = put_line(list, at.found, candidates::line_at(group.last));
-    behind(at, group.end, found, most)
 }
 
 // Lists the lines that mend the cell: how many there are.
@@ -107,8 +105,14 @@ pub fn seek(
     requires sizes_bound { span sizes.now ≤ room scratch.old }
     ensures { (result ≤ 24576) × SoFar cell.now recipe.now list.old (4096 * sizes.now.resources) result list.new }
 {
-    let named = candidates::named_operations(recipe);
     let end = 4096 * sizes.resources;
+    let mending = Mending {
+        cell,
+        recipe,
+        sizes,
+        named: candidates::named_operations(recipe),
+        end,
+    };
     let mut at = Progress {
         next: 0,
         size: 1,
@@ -117,7 +121,7 @@ pub fn seek(
     };
     // A turn goes on behind a group or halves it, so this is no count.
     while at.next < end {
-        at = attempt(cell, recipe, sizes, &named, end, at, table, scratch, list);
+        at = mending.attempt(at, table, scratch, list);
     }
     at.found
 }

@@ -16,6 +16,7 @@ use refusals::Broken;
 pub fn read_limits(file: &[u8], cell: Cell) -> Result<Cell, Broken>
     ensures { reading_over cell result ≡ read_limits file.now cell }
 {
+    // `map_err` was tried; its proof did not close.
     if let Err(broken) = cell::check_cell(cell) {
         return Err(Broken {
             rule: broken.rule,

@@ -30,8 +30,8 @@ fn judged(
 }
 
 // Rule 4 and the rest, over the numbers that rule 2 kept: the limits as far as the resources are in range.
-fn store_lines(numbers: &[u32], count: usize, cell: &Cell) -> Result<[u8; 6], Broken>
-    requires { (448 ≤ length numbers.now) × (count ≤ 64) × (cell.now.count ≤ 64) }
+fn store_lines(numbers: &[u32; 448], count: usize, cell: &Cell) -> Result<[u8; 6], Broken>
+    requires { (count ≤ 64) × (cell.now.count ≤ 64) }
     ensures { (file : List ℕ) → count ≡ length (value_lines file) → Kept 2 file count numbers.now → result ≡ found_if (first_refusal (rule4 file ∷ rule20 file (resource_count cell.now) ∷ [])) (limits_of file) }
 {
     let resources = field::column(numbers, count, 0, 0, 5);
@@ -41,8 +41,8 @@ fn store_lines(numbers: &[u32], count: usize, cell: &Cell) -> Result<[u8; 6], Br
 }
 
 // Rule 3 and the rest, for a file that passed rule 2 with so many lines.
-fn read_lines(numbers: &[u32], count: usize, cell: &Cell) -> Result<[u8; 6], Broken>
-    requires { (448 ≤ length numbers.now) × (cell.now.count ≤ 64) }
+fn read_lines(numbers: &[u32; 448], count: usize, cell: &Cell) -> Result<[u8; 6], Broken>
+    requires { cell.now.count ≤ 64 }
     ensures { (file : List ℕ) → count ≡ length (value_lines file) → Kept 2 file count numbers.now → result ≡ found_if (first_refusal (rule3 (length (value_lines file)) ∷ rule4 file ∷ rule20 file (resource_count cell.now) ∷ [])) (limits_of file) }
 {
     refusals::check_count(count)?;

@@ -16,7 +16,7 @@ fn limit_of(resource: &[u8; 64], most: &[u8; 64], count: usize, k: usize) -> u8
     if n < count { most[n] } else { 8 }
 }
 
-// The limits of all resources.
+// The limits of all resources, by the two columns, as `limit_by` has them.
 #[tactic(auto, unfolding(refusals::specs::Search::tabulate))]
 pub fn all_limits(resource: &[u8; 64], most: &[u8; 64], count: usize) -> [u8; 6]
     requires { count ≤ 64 }

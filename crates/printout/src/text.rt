@@ -27,7 +27,8 @@ fn last_digit(n: u64) -> u8
     48 + (n % 10) as u8
 }
 
-// Puts the digits of a number, the last `most` of them at most.
+// Puts the digits of a number, the last `most` of them at most. By hand, into the lent text: `write!` and `format!` promise
+// the bytes of a String alone, which is on the heap.
 fn put_digits(text: &mut [u8], at: usize, n: u64, most: usize) -> usize
     requires { at + most ≤ length text.old }
     ensures { Put text.old text.new at (digits_of most n) result }

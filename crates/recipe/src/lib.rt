@@ -26,7 +26,8 @@ pub const DO: u8 = 1;
 pub const TEST: u8 = 2;
 
 // The lines of a recipe, an array for each field; what lies past the count counts for nothing. No Vec of lines: memory is fixed, and
-// the definitions (`leaves_range`, `breaks_order` and the others of specs/Rules) and what is proved of them speak of the columns.
+// the definitions (`leaves_range`, `breaks_order` and the others of specs/Rules) and what is proved of them speak of the columns. Nor is it
+// an invariant that there are 64 lines at most: `check_recipe` speaks of records of any count.
 // `otherwise` is the field that the file calls else.
 #[derive(Clone, Copy)]
 pub struct Recipe {

@@ -12,8 +12,8 @@ use refusals::{Broken, Refusal};
 use tables::field;
 
 // Rule 4 and the rest, over the numbers that rule 2 kept: each field as far as those before it are in range.
-fn store_lines(numbers: &[u32], count: usize) -> Result<Recipe, Broken>
-    requires { (448 ≤ length numbers.now) × (0 < count) × (count ≤ 64) }
+fn store_lines(numbers: &[u32; 448], count: usize) -> Result<Recipe, Broken>
+    requires { (0 < count) × (count ≤ 64) }
     ensures { (file : List ℕ) → count ≡ length (value_lines file) → Kept 7 file count numbers.now → result ≡ found_if (first_refusal (rule4 (recipe_of file) ∷ after_range (recipe_of file))) (recipe_of file) }
 {
     let points = field::column(numbers, count, 0, 0, 15);
@@ -24,6 +24,7 @@ fn store_lines(numbers: &[u32], count: usize) -> Result<Recipe, Broken>
     let thens = field::column(numbers, given.lines, 5, 0, 15);
     let others = field::column(numbers, thens.lines, 6, 0, 15);
     refusals::at_line(Refusal::Range, others.lines, count)?;
+    // An array of another value goes into a literal by a local.
     let point = points.values;
     let kind = kinds.values;
     let op = ops.values;
@@ -46,8 +47,7 @@ fn store_lines(numbers: &[u32], count: usize) -> Result<Recipe, Broken>
 }
 
 // Rule 3 and the rest, for a file that passed rule 2 with so many lines.
-pub fn read_lines(numbers: &[u32], count: usize) -> Result<Recipe, Broken>
-    requires { 448 ≤ length numbers.now }
+pub fn read_lines(numbers: &[u32; 448], count: usize) -> Result<Recipe, Broken>
     ensures { (file : List ℕ) → count ≡ length (value_lines file) → Kept 7 file count numbers.now → result ≡ found_if (check_recipe (recipe_of file)) (recipe_of file) }
 {
     refusals::check_count(count)?;

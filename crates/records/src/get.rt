@@ -29,14 +29,6 @@ pub fn bytes_at<const N: usize>(bytes: &[u8], at: usize) -> [u8; N]
     <[u8; N]>::try_from(&bytes[at..at + N]).unwrap()
 }
 
-// Six bytes, one for each resource, from a place on.
-pub fn six(bytes: &[u8], at: usize) -> [u8; 6]
-    requires { at + 6 ≤ length bytes.now }
-    ensures { result ≡ tabulate 6 (λ k. get_or bytes.now (at + k) 0) }
-{
-    bytes_at(bytes, at)
-}
-
 // The cell record of no lines.
 pub fn no_cell() -> Cell
     ensures { result ≡ no_cell }

@@ -4,5 +4,5 @@
 mod get;
 mod put;
 
-pub use get::{bytes_at, get_cell, get_recipe, no_cell, no_recipe, six};
+pub use get::{bytes_at, get_cell, get_recipe, no_cell, no_recipe};
 pub use put::{put_cell, put_recipe};

@@ -1,4 +1,4 @@
-// Records written as bytes, line by line.
+// Records written as bytes, line by line, each by its own fields, as `cell_bytes` and `recipe_bytes` have them.
 ghost use Rattle.std.specs.Prelude.{◌≡◌, ◌++◌, ◌≤◌, length, drop};
 ghost use Rattle.records.specs.Encoding.{cell_bytes, recipe_bytes};
 

@@ -1,5 +1,6 @@
 // Searches over the numbers below a bound: the lines of a file, the parts, the resources. Where nothing is found the bound stands for
-// it, and no None, since `first_below` of specs/Search has it so, by which the rules are defined.
+// it, and no None, since `first_below` of specs/Search has it so, by which the rules are defined. The other two stand beside it since their
+// contracts are the definitions of their names, which an iterator's are not.
 ghost use Rattle.std.specs.Prelude.{◌≡◌, Bool, ℕ, ◌<◌};
 ghost use Rattle.refusals.specs.Search.{first_below, any_below, all_below, Answers};
 

@@ -50,7 +50,7 @@ impl Run {
         Ok(entry)
     }
 
-    // The next run, whatever is handed in.
+    // The next run, whatever is handed in. The outcome is a number and no enum, since any may be handed in: 17 refuses it.
     #[tactic(auto, using(crate::proofs::Answers::kept_cell, crate::proofs::Answers::kept_recipe, crate::proofs::Answers::kept_point, crate::proofs::Answers::kept_chapter, crate::proofs::Answers::stands_open, crate::proofs::Answers::lead_inside, crate::proofs::Answers::report_refused, crate::proofs::Answers::report_17, crate::proofs::Answers::report_18, crate::proofs::Answers::report_19, crate::proofs::Answers::report_stays, crate::proofs::Answers::report_lands))]
     pub fn report(
         mut self,
@@ -86,7 +86,7 @@ impl Run {
         }
     }
 
-    // The place of a part, whatever is handed in; 255 for a part that isn't there.
+    // The place of a part, whatever is handed in; 255 for a part that isn't there, and no None: `part_place` has it so, and C gets it.
     #[tactic(auto, using(crate::proofs::CountedRules::cell_passed, crate::proofs::CountedRules::most_few, crate::proofs::CountedRules::own_few, crate::proofs::CountedRules::parts_few, crate::proofs::Answers::place_early, crate::proofs::Answers::place_refused, crate::proofs::Answers::place_past, crate::proofs::Answers::place_there))]
     pub fn place(self, cell: Cell, recipes: &[u8], part: u8) -> Result<u8, Broken>
         ensures { place_of result ≡ part_place cell (chapters_from recipes.now) self part }

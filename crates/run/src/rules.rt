@@ -18,7 +18,7 @@ pub fn check_run(most: Sizes, own: Sizes, run: Run) -> Verdict
     refusals::no_line(Refusal::RunRange, !is_there)
 }
 
-// The same with 14 between them, for a table of so many entries where so many are needed.
+// The same with 14 between them, so that neither calls the other, for a table of so many entries where so many are needed.
 #[tactic(auto, using(refusals::proofs::Rules::tried), unfolding(crate::specs::Inner::table_rules_by, positions::specs::Rules::rule16))]
 pub fn check_table(most: Sizes, own: Sizes, needed: usize, entries: usize, run: Run) -> Verdict
     requires { own.resources ≤ 6 }

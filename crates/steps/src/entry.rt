@@ -20,7 +20,7 @@ pub enum EntryKind {
     Other,
 }
 
-// The kind's number.
+// The kind's number, whatever it is.
 #[tactic(auto, unfolding(crate::specs::Entry::entry_kind))]
 pub fn kind(entry: u32) -> u32
     ensures { result ≡ entry_kind entry }

@@ -41,7 +41,7 @@ fn keep_line(store: &mut [u32], n: usize, values: [u32; 7])
     }
 }
 
-// Rule 2, over every line of the file, also past those that a record has room for; accepted, it gives the
+// Rule 2, which a reader tries behind rule 1 (one function over both would be told as much as both are), over every line of the file, also past those that a record has room for; accepted, it gives the
 // number of value lines. The store gets the numbers of the first 64 lines, seven places a line, so that a
 // reader need not look again.
 pub fn check_lines(file: &[u8], k: usize, store: &mut [u32]) -> Result<usize, Broken>

@@ -8,7 +8,7 @@ returns-in_err-at_line c =
     let p = err_from_is_err_and c.from_residual.result c.from_residual.ensures.1 in
     λ f all K.
     rw (p.1, p.2)
-    (sym (stored_out f c.args.numbers.now c.args.count all c.requires.1 K _ _ _ _ _
+    (sym (stored_out f c.args.numbers.now c.args.count all c.requires K _ _ _ _ _
     c.column-resources.ensures c.column-froms.ensures c.column-acts.ensures c.column-args.ensures c.column-tos.ensures
     (sym c.at_line.ensures ∙ c.in_err-at_line.was)))
 
@@ -17,13 +17,13 @@ returns-in_err-check_lines c =
     let p = err_from_is_err_and c.from_residual-in_err-check_lines.result c.from_residual-in_err-check_lines.ensures.1 in
     λ f all K.
     rw (p.1, p.2)
-    (sym (stored_refused f c.args.numbers.now c.args.count all c.requires.1 K _ _ _ _ _
+    (sym (stored_refused f c.args.numbers.now c.args.count all c.requires K _ _ _ _ _
     c.column-resources.ensures c.column-froms.ensures c.column-acts.ensures c.column-args.ensures c.column-tos.ensures
     (sym c.at_line.ensures ∙ c.in_ok-at_line.was) c.check_lines.ensures c.in_err-check_lines.was))
 
 pub returns : goal.returns
 returns c =
     λ f all K.
-    sym (stored_found f c.args.numbers.now c.args.count all c.requires.1 K _ _ _ _ _
+    sym (stored_found f c.args.numbers.now c.args.count all c.requires K _ _ _ _ _
     c.column-resources.ensures c.column-froms.ensures c.column-acts.ensures c.column-args.ensures c.column-tos.ensures
     (sym c.at_line.ensures ∙ c.in_ok-at_line.was) c.check_lines.ensures c.in_ok-check_lines.was)

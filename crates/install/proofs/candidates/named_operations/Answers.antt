@@ -5,7 +5,7 @@ use Rattle.recipe.proofs.AcceptedRecord.{line_in_range, each_accepts}
 use Rattle.install.specs.Candidates.{names_at, is_named}
 use Rattle.install.proofs.NamedOperations.{named_none, named_end, named_one}
 use Rattle.install.proofs.candidates.named_operations.Goals as goal
-use Rattle.install.proofs.candidates.named_operations.Goals.{then-recipe-n-ne0, else-recipe-n-ne0}
+use Rattle.install.proofs.candidates.named_operations.Goals.{then-recipe-n-ne-END, else-recipe-n-ne-END}
 
 pub bounds-named-recipe : goal.bounds-named-recipe
 bounds-named-recipe c = omega (arith, (line_in_range _ (each_accepts _ c.requires).fourth c.loop-n.n c.loop-n-test.true).op)
@@ -14,9 +14,9 @@ pub loop-n-preserved : goal.loop-n-preserved
 loop-n-preserved c =
     let l = c.loop-n in
     let few = (line_in_range _ (each_accepts _ c.requires).fourth l.n c.loop-n-test.true).op in
-    elim c.if-recipe-n-ne0.branch [
-      | then-recipe-n-ne0 w ↦ rw w.named-is (named_one _ _ l.n l.named l.invariant w.if-recipe-n-ne0.true (omega (arith, few)))
-      | else-recipe-n-ne0 w ↦ rw w.named-is (named_end _ _ l.n l.named l.invariant w.if-recipe-n-ne0.false)
+    elim c.if-recipe-n-ne-END.branch [
+      | then-recipe-n-ne-END w ↦ rw w.named-is (named_one _ _ l.n l.named l.invariant w.if-recipe-n-ne-END.true (omega (arith, few)))
+      | else-recipe-n-ne-END w ↦ rw w.named-is (named_end _ _ l.n l.named l.invariant w.if-recipe-n-ne-END.false)
     ]
 
 pub returns : goal.returns

@@ -14,7 +14,7 @@ returns-in_err-check_count c =
     (sym (found_err _ _ (tried_err _ _ (ap rule3 (sym all) ∙ sym c.check_count.ensures ∙ c.in_err-check_count.was))))
 
 pub store_lines-requires : goal.store_lines-requires
-store_lines-requires c = (c.requires.0, count_most _ (sym c.check_count.ensures ∙ c.in_ok-check_count.was), c.requires.1)
+store_lines-requires c = (count_most _ (sym c.check_count.ensures ∙ c.in_ok-check_count.was), c.requires)
 
 pub returns : goal.returns
 returns c =

@@ -10,7 +10,7 @@ pub returns-in_err-at_line : goal.returns-in_err-at_line
 returns-in_err-at_line c =
     let p = err_from_is_err_and c.from_residual.result c.from_residual.ensures.1 in
     λ f all K.
-    let judged = range_judged f c.args.numbers.now c.args.count all c.requires.1 K _ _ c.column-resources.ensures c.column-mosts.ensures in
+    let judged = range_judged f c.args.numbers.now c.args.count all c.requires.0 K _ _ c.column-resources.ensures c.column-mosts.ensures in
     rw (p.1, p.2)
     (sym (found_err _ _ (tried_err _ _ (sym judged ∙ sym c.at_line.ensures ∙ c.in_err-at_line.was))))
 
@@ -18,8 +18,8 @@ pub returns : goal.returns
 returns c =
     λ f all K.
     let fine = sym c.at_line.ensures ∙ c.in_ok-at_line.was in
-    let judged = range_judged f c.args.numbers.now c.args.count all c.requires.1 K _ _ c.column-resources.ensures c.column-mosts.ensures in
-    let resources = resources_are f c.args.numbers.now c.args.count all c.requires.1 K _ _ c.column-resources.ensures c.column-mosts.ensures fine in
-    let mosts = mosts_are f c.args.numbers.now c.args.count all c.requires.1 K _ _ c.column-resources.ensures c.column-mosts.ensures fine in
+    let judged = range_judged f c.args.numbers.now c.args.count all c.requires.0 K _ _ c.column-resources.ensures c.column-mosts.ensures in
+    let resources = resources_are f c.args.numbers.now c.args.count all c.requires.0 K _ _ c.column-resources.ensures c.column-mosts.ensures fine in
+    let mosts = mosts_are f c.args.numbers.now c.args.count all c.requires.0 K _ _ c.column-resources.ensures c.column-mosts.ensures fine in
     c.judged.ensures f resources mosts all
     ∙ ap (λ (v : Verdict). found_if v (limits_of f)) (sym (tried_ok _ _ (sym judged ∙ fine) ∙ tried_last _))

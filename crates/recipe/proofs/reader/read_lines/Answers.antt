@@ -19,7 +19,7 @@ returns-in_err-check_count c =
 pub store_lines-requires : goal.store_lines-requires
 store_lines-requires c =
     let counted = sym c.check_count.ensures ∙ c.in_ok-check_count.was in
-    (c.requires, count_some _ counted, count_most _ counted)
+    (count_some _ counted, count_most _ counted)
 
 pub returns : goal.returns
 unfolding check_recipe recipe_rules after_range recipe_of

@@ -8,7 +8,7 @@ returns-in_err-at_line c =
     let p = err_from_is_err_and c.from_residual.result c.from_residual.ensures.1 in
     λ f all K.
     rw (p.1, p.2)
-    (sym (stored_out f c.args.numbers.now c.args.count all c.requires.2 K _ _ _ _ _ _ _
+    (sym (stored_out f c.args.numbers.now c.args.count all c.requires.1 K _ _ _ _ _ _ _
     c.column-points.ensures c.column-kinds.ensures c.column-ops.ensures c.column-taken.ensures
     c.column-given.ensures c.column-thens.ensures c.column-others.ensures
     (sym c.at_line.ensures ∙ c.in_err-at_line.was)))
@@ -18,7 +18,7 @@ returns-in_err-check_points c =
     let p = err_from_is_err_and c.from_residual-in_err-check_points.result c.from_residual-in_err-check_points.ensures.1 in
     λ f all K.
     rw (p.1, p.2)
-    (sym (stored_refused f c.args.numbers.now c.args.count all c.requires.2 K _ _ _ _ _ _ _
+    (sym (stored_refused f c.args.numbers.now c.args.count all c.requires.1 K _ _ _ _ _ _ _
     c.column-points.ensures c.column-kinds.ensures c.column-ops.ensures c.column-taken.ensures
     c.column-given.ensures c.column-thens.ensures c.column-others.ensures
     (sym c.at_line.ensures ∙ c.in_ok-at_line.was) c.check_points.ensures c.in_err-check_points.was))
@@ -26,7 +26,7 @@ returns-in_err-check_points c =
 pub returns : goal.returns
 returns c =
     λ f all K.
-    sym (stored_found f c.args.numbers.now c.args.count all c.requires.2 K _ _ _ _ _ _ _
+    sym (stored_found f c.args.numbers.now c.args.count all c.requires.1 K _ _ _ _ _ _ _
     c.column-points.ensures c.column-kinds.ensures c.column-ops.ensures c.column-taken.ensures
     c.column-given.ensures c.column-thens.ensures c.column-others.ensures
     (sym c.at_line.ensures ∙ c.in_ok-at_line.was) c.check_points.ensures c.in_ok-check_points.was)

@@ -4,7 +4,7 @@ use native.Mathlib.Omega.{arith}
 use Rattle.cell.specs.Longer.{with_line}
 use Rattle.cell.specs.declared.Cell.{Cell}
 use Rattle.install.proofs.GatheredLines.{gathered_none, gathered_more, gathered_end}
-use Rattle.install.proofs.groups.gather.Goals as goal
+use Rattle.install.proofs.Mending.gather.Goals as goal
 
 pub returns-in_default : goal.returns-in_default
 returns-in_default c =
