@@ -2,7 +2,7 @@
 use mathlib.Core.Path.{◌≡◌, sym, ap, subst, ◌∙◌}
 use mathlib.Core.Bool.{Bool, true, false}
 use mathlib.Core.List.{List, [], ◌∷◌, ◌++◌}
-use Prim.Native.Nat.{ℕ, ◌+◌, ◌*◌, ◌-◌, ◌/◌, ◌<◌, ◌≤◌}
+use Prim.Native.Nat.{ℕ, ◌+◌, ◌*◌, ◌-◌, ◌<◌, ◌≤◌}
 use native.Mathlib.Omega.{arith}
 use lib.ListN.{length}
 use Rattle.cell.specs.declared.Cell.{Cell}
@@ -134,18 +134,3 @@ module _ (c : Cell) (r : Recipe) (z : Sizes) (A : Asked c r z) (end : ℕ) (at :
       one_found {list' = list'} buffer F more put =
           subst (λ (n : ℕ). SoFar c r buffer group.end n list') (sym more)
           (so_far_one c r buffer z A.checked G.last_from (G.last_in (omega arith)) last_tried last_mends no_other F put)
-
-  -- a group that is halved
-  pub halves :
-      {list : List ℕ} {at' : Progress}
-      → 1 < group.added
-      → at' ≡ record { next = at.next; size = group.added / 2; halved = true; found = at.found }
-      → Tried c r end at list at' list
-  halves {list} many is =
-      subst (λ (p : Progress). Tried c r end at list p list) (sym is)
-      (record {
-        standing =
-            record { most = S.most; within = S.within; some = omega arith; fits = omega (arith, S.fits, G.most); few = S.few };
-        nearer = omega (arith, G.most);
-        so_far = λ buffer F. F;
-      })
