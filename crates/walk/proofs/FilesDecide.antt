@@ -21,6 +21,7 @@ use Rattle.recipe.specs.declared.Recipe.{Recipe}
 use Rattle.recipe.specs.Reader as recipe
 use Rattle.recipe.specs.Reader.{recipe_of, judge_recipe, no_recipe, read_recipe}
 use Rattle.recipe.proofs.AcceptedRecord.{read_few}
+use Rattle.recipe.proofs.ReadRecord.{read_refused}
 use Rattle.records.specs.Encoding.{recipe_bytes, recipe_from}
 use Rattle.records.proofs.RecordsRoundTrip.{WholeRecipe, recipe_length, recipe_back}
 use Rattle.chapters.specs.Joined.{Chapters}
@@ -28,9 +29,9 @@ use Rattle.chapters.specs.Records.{chapters_from}
 use Rattle.chapters.proofs.ChapterBytes.{one_record}
 use Rattle.planner.specs.Call.{PlanCall, FixedCall}
 use Rattle.refusals.proofs.Verdicts.{refused_not}
-use Rattle.refusals.proofs.Rules.{part_refuses, part_accepts, decides}
+use Rattle.refusals.proofs.Rules.{part_refuses, part_accepts, decides, refused_of, accepted_of, found_of}
 use Rattle.printout.specs.Text.{refusal_line, Put}
-use Rattle.walk.specs.Output.{below, CellRead, RecipeRead, TellsOf, Prepared, FixedPrepared}
+use Rattle.walk.specs.Output.{below, CellRead, RecipeRead, ReadBehind, TellsOf, Prepared, FixedPrepared}
 
 -- a buffer of 8192 bytes holds the start of a file
 in_start : (n : ℕ) (start : List ℕ) → length start ≡ 8192 → take 8192 (take n start) ≡ take n start
@@ -45,6 +46,39 @@ recipe_start n start long is = (take n start, is ∙ ap read_recipe (sym (in_sta
 -- the recipe that is not read
 pub recipe_none : {reading : RecipeReading} → reading ≡ read_recipe [] → RecipeRead reading
 recipe_none is = ([], is)
+
+-- what is answered behind a cell, by what the recipe's reader answered
+abbrev pub answer_behind : Result Cell Broken → Result Recipe Broken → Result (Cell × Recipe) Broken
+answer_behind (Err broken) read = Err broken
+answer_behind (Ok found) (Err broken) = Err broken
+answer_behind (Ok found) (Ok r) = Ok (found, r)
+
+pub read_behind : (cell : Result Cell Broken) (read : Result Recipe Broken) {answer : Result (Cell × Recipe) Broken}
+    → RecipeRead (recipe.reading_of read) → answer ≡ answer_behind cell read → ReadBehind cell answer
+unfolding recipe.reading_of found_if
+read_behind (Err broken) read recipe_read is = is
+read_behind (Ok found) (Err broken) recipe_read is = (recipe.reading_of (Err broken), recipe_read, is)
+read_behind (Ok found) (Ok r) recipe_read is = (recipe.reading_of (Ok r), recipe_read, is)
+
+-- and of what the recipe's reader answered, by what is answered behind a cell
+recipe_refused : {reading : RecipeReading} {broken : Broken} → RecipeRead reading → reading.verdict ≡ Err broken → RecipeRead (recipe.reading_of (Err broken))
+unfolding read_recipe
+recipe_refused read told = (read.0, read_refused (take 8192 read.0) (ap (λ (x : RecipeReading). x.verdict) (sym read.1) ∙ told))
+
+recipe_accepted : {reading : RecipeReading} {r : Recipe} → RecipeRead reading → reading.verdict ≡ Accepted → r ≡ reading.recipe → RecipeRead (recipe.reading_of (Ok r))
+unfolding recipe.reading_of
+recipe_accepted read told is = (read.0, (λ i. record { verdict = sym told i; recipe = is i }) ∙ read.1)
+
+-- a cell and a recipe that are answered were both read
+pub both_read : (answer : Result Cell Broken) (found : Cell) (r : Recipe)
+    → CellRead (cell.reading_of answer) → ReadBehind answer (Ok (found, r))
+    → CellRead (cell.reading_of (Ok found)) × RecipeRead (recipe.reading_of (Ok r))
+both_read (Err broken) found r read is = cc
+both_read (Ok c) found r read behind =
+    let both = found_of _ _ (sym behind.2) in (
+      subst (λ (x : Cell). CellRead (cell.reading_of (Ok x))) (ap (λ (x : Cell × Recipe). x.0) (sym both)) read,
+      recipe_accepted behind.1 (accepted_of _ _ (sym behind.2)) (ap (λ (x : Cell × Recipe). x.1) both),
+    )
 
 -- what is handed over below the first line
 pub line_below : {verdict : Verdict} {refusal : Refusal} {line number end : ℕ} {entry exit : List ℕ}
@@ -200,6 +234,14 @@ module _ {recipes table : List ℕ} where
   unfolding cell.reading_of recipe.reading_of found_if first_refusal
   told_recipe found {broken} cell_read read =
       (record { verdict = Err broken; cell = found }, refl, fixed_refused recipes table _ _ cell_read read (Err broken) refl refl)
+
+  -- the first of the two that is refused
+  pub told_behind : (answer : Result Cell Broken) {broken : Broken}
+      → CellRead (cell.reading_of answer) → ReadBehind answer (Err broken)
+      → TellsOf (Err broken) (FixedPrepared recipes table)
+  told_behind (Err first) {broken} read is =
+      let same : first ≡ broken = cc in subst (λ (x : Broken). TellsOf (Err x) (FixedPrepared recipes table)) same (told_cell read)
+  told_behind (Ok found) read behind = told_recipe found read (recipe_refused behind.1 (refused_of _ _ (sym behind.2)))
 
   pub told_plan : {found : Cell} (r : Recipe) (plan : Verdict) {entry scratch scratch' : List ℕ} (before : List ℕ)
       → CellRead (cell.reading_of (Ok found)) → RecipeRead (recipe.reading_of (Ok r))

@@ -5,7 +5,7 @@ use Rattle.std.specs.declared.option.Option.{Option}
 use Rattle.std.specs.Io.KnownBytes.{Appends, Consumes}
 use Rattle.refusals.specs.declared.Broken.{Broken}
 use Rattle.refusals.specs.Refusal.{number_of}
-use Rattle.std.specs.Prelude.{Err}
+use Rattle.std.specs.Prelude.{Ok, Err}
 use Rattle.refusals.specs.Verdict.{Verdict, Accepted, first_refusal, found_if}
 use Rattle.cell.specs.declared.Cell.{Cell}
 use Rattle.cell.specs.Reader.{CellReading}
@@ -39,6 +39,12 @@ CellRead reading = (file : List ℕ) × (reading ≡ read_cell (take 8192 file))
 -- "of `recipe.csv`"
 abbrev pub RecipeRead : RecipeReading → Type 0
 RecipeRead reading = (file : List ℕ) × (reading ≡ read_recipe (take 8192 file))
+
+-- "and then, unless that is refused, of `recipe.csv`": what is answered behind a cell. The refusal of a cell is handed on, whatever
+-- `recipe.csv` holds; a cell goes on with the recipe of some file, or ends at that file's refusal
+abbrev pub ReadBehind : Result Cell Broken → Result (Cell × Recipe) Broken → Type 0
+ReadBehind (Err broken) answer = answer ≡ Err broken
+ReadBehind (Ok cell) answer = (reading : RecipeReading) × RecipeRead reading × (answer ≡ found_if reading.verdict (cell, reading.recipe))
 
 -- "Its table and scratch have 8192 places", the scratch eight in a byte: the table and the verdict that a plan call leaves, of which the
 -- recipe is the one chapter

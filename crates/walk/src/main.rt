@@ -5,10 +5,9 @@
 ghost use Rattle.std.specs.Prelude.{◌≡◌, false, Err, [], ◌*◌, ◌≤◌, length, take, IsOk};
 ghost use Rattle.std.specs.Io.KnownBytes.{Appends, Consumes};
 ghost use Rattle.cell.specs.Reader.{reading_of};
-ghost use Rattle.recipe.specs.Reader as recipe;
 ghost use Rattle.records.specs.Encoding.{recipe_from};
 ghost use Rattle.walk.specs.Counts.{IsPrefixLen};
-ghost use Rattle.walk.specs.Output.{below, CellRead, RecipeRead, TellsOf, Prepared, FixedPrepared, Stepped, Followed, FollowedOn, Walk};
+ghost use Rattle.walk.specs.Output.{below, CellRead, ReadBehind, TellsOf, Prepared, FixedPrepared, Stepped, Followed, FollowedOn, Walk};
 
 use cell::Cell;
 use recipe::Recipe;
@@ -146,13 +145,15 @@ fn read_cell<F: Files>(files: &F) -> Result<Cell, Broken>
     cell::read_cell(&start[..length])
 }
 
-// The recipe of the working directory.
-fn read_recipe<F: Files>(files: &F) -> Result<Recipe, Broken>
-    ensures { RecipeRead (recipe.reading_of result) }
+// The recipe of the working directory behind the cell: the refusal of a cell is handed on, and no recipe is read then.
+fn read_recipe<F: Files>(files: &F, cell: Result<Cell, Broken>) -> Result<(Cell, Recipe), Broken>
+    ensures { ReadBehind cell result }
 {
+    let cell = cell?;
     let mut start = [0u8; 8192];
     let length = read_start(files, "recipe.csv", &mut start);
-    recipe::read_recipe(&start[..length])
+    let recipe = recipe::read_recipe(&start[..length])?;
+    Ok((cell, recipe))
 }
 
 // Reads the cell and, unless that is refused, the recipe, of which it keeps the record's bytes, and plans
@@ -163,8 +164,7 @@ fn prepare<F: Files>(files: &F, recipes: &mut [u8], table: &mut [u32]) -> Result
     ensures prepared { TellsOf result (Prepared recipes.new table.new) }
     ensures fixed { TellsOf result (FixedPrepared recipes.new table.new) }
 {
-    let cell = read_cell(files)?;
-    let recipe = read_recipe(files)?;
+    let (cell, recipe) = read_recipe(files, read_cell(files))?;
     records::put_recipe(recipe, recipes);
     let mut scratch = [0u8; 1024];
     planner::plan(cell, recipes, table, &mut scratch)?;
