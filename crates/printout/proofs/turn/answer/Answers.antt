@@ -1,7 +1,8 @@
 use native.Mathlib.Omega.{arith}
-use mathlib.Core.Path.{refl, sym, ap, ◌∙◌}
+use mathlib.Core.Path.{refl, ap, ◌∙◌}
 use Prim.Native.Nat.{◌-◌}
 use Rattle.std.specs.Prelude.{Ok, Err}
+use Rattle.std.proofs.lemmas.Bool.Decides.{nat_tests}
 use Rattle.recipe.specs.declared.Recipe.{Recipe}
 use Rattle.records.specs.Encoding.{recipe_from}
 use Rattle.chapters.specs.Joined.{Chapters}
@@ -11,11 +12,12 @@ use Rattle.printout.specs.Turn.{position_in}
 use Rattle.printout.proofs.ByteAnswers.{no_digit, entry_in, report_made, report_refused}
 use Rattle.printout.proofs.turn.answer.Goals as goal
 
+-- The call tells of the number that it is given: here and below arithmetic carries this to the byte, whatever expression the code tests.
 pub returns-then-not-is_ascii_digit : goal.returns-then-not-is_ascii_digit
 returns-then-not-is_ascii_digit c =
     let s = c.args in
     no_digit s.cell (recipe_from s.recipes.now) s.table.now s.run s.byte s.text.now s.at (omega (arith, c.requires.at_in_bounds))
-    (sym c.is_ascii_digit.ensures.value ∙ c.if-not-is_ascii_digit.true)
+    (grind (arith, nat_tests))
 
 pub returns-in-Ok : goal.returns-in-Ok
 unfolding answered
@@ -28,7 +30,7 @@ returns-in-Ok c =
     s.table.now
     s.run
     s.byte
-    (sym c.is_ascii_digit.ensures.value ∙ c.if-not-is_ascii_digit.false)
+    (grind (arith, nat_tests))
     (answered s.run (Ok c.in-Ok.next))
     (c.in-Ok.ensures ∙ ap (λ (rs : Chapters). report_of s.cell rs s.table.now s.run (s.byte - 48)) one)
     c.from.result
@@ -54,7 +56,7 @@ returns-in-Err c =
     s.table.now
     s.run
     s.byte
-    (sym c.is_ascii_digit.ensures.value ∙ c.if-not-is_ascii_digit.false)
+    (grind (arith, nat_tests))
     (answered s.run (Err c.in-Err.broken))
     (c.in-Err.ensures ∙ ap (λ (rs : Chapters). report_of s.cell rs s.table.now s.run (s.byte - 48)) one)
     refl
