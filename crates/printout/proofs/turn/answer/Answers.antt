@@ -12,7 +12,7 @@ use Rattle.printout.specs.Turn.{position_in}
 use Rattle.printout.proofs.ByteAnswers.{no_digit, entry_in, report_made, report_refused}
 use Rattle.printout.proofs.turn.answer.Goals as goal
 
--- The call tells of the number that it is given: here and below arithmetic carries this to the byte, whatever expression the code tests.
+-- The call tells of the number that it is given: here and below arithmetic carries this to the byte.
 pub returns-then-not-is_ascii_digit : goal.returns-then-not-is_ascii_digit
 returns-then-not-is_ascii_digit c =
     let s = c.args in
